@@ -413,7 +413,7 @@ module _ {K : Type 0} {g : _} (order : Order) (total : IsTotalOrder order.cmp) (
         found = λ f given m s unbroken.
             let serving = serving_of order old given db m whole s.stands in
             let behind = install_found order kept one lasts new facts mid (drawing m most new.facts) (on m serving f) after (c m serving f) (none_left m serving f) f install in
-            found_then old.facts new.facts facts db ((step_keeps stops).found (install.faithful f) given m s unbroken) (record { current = behind.current; each = behind.each });
+            found_then old.facts new.facts facts db ((step_keeps stops).found (install.faithful f) given m s unbroken) (record { current = behind.current; lock = behind.lock; each = behind.each });
       }
 
       -- the MANIFEST is synced, and so are the tables that were put in

@@ -30,6 +30,7 @@ use Rattle.engine.proofs.Steps.{serving_of}
 use Rattle.engine.proofs.WriteSynced.{kept_synced}
 use Rattle.engine.specs.Losses.{HasSyncedLog, LeavesFound, LeavesFoundLogs, LosesEnds, LosesEndsOver, Outlasts, OutlastsOver}
 use Rattle.engine.specs.OpenDb.{OpenDb}
+use Rattle.engine.specs.Reopening.{NamesManifest, NamesOver}
 use Rattle.engine.specs.declared.ids.Ids.{Ids}
 use Rattle.engine.specs.internal.Standing.{IsServing, StandsOpen, entries_of}
 
@@ -171,3 +172,15 @@ any_loses_ends order spared_law cut_law source ids (Some db) = λ m undamaged s.
 pub refused_outlasts : {K : Type 0} {g : _} (asked : Type 0) (order : Order) (source : Seen) (ids : Ids) (db : Option (OpenDb K g)) (e : DbError) → OutlastsOver asked order source ids db (Refused e)
 refused_outlasts asked order source ids None e = tt
 refused_outlasts asked order source ids (Some db) e = λ f a. tt
+
+-- ---- the MANIFEST that `CURRENT` names
+
+pub names_open : {K : Type 0} {g : _} (order : Order) (source : Seen) (ids : Ids) (db : OpenDb K g) (m : Machine) → m.damaged ≡ false → StandsOpen order source ids db m → db.broken ≡ false → NamesManifest source.facts db.directory.manifest.number
+names_open order source ids db m undamaged s whole =
+    let serving = undamaged_serving order source db m undamaged (serving_of order source ids db m whole s) in
+    let manifest = serving.log.directory.consistent.manifest in
+    subst (λ (n : ℕ). NamesManifest source.facts n) (sym serving.log.knows.number) (manifest.numbered, manifest.current)
+
+pub any_names : {K : Type 0} {g : _} (order : Order) (source : Seen) (ids : Ids) (db : Option (OpenDb K g)) → NamesOver order source ids db
+any_names order source ids None = tt
+any_names order source ids (Some db) = λ m undamaged s whole. names_open order source ids db m undamaged s whole

@@ -5,7 +5,7 @@ use Rattle.std.specs.List.{AllByRecursion}
 use Rattle.batch.specs.declared.operation.Operation.{Operation}
 use Rattle.edits.specs.Names.{name_of, IsNumbered}
 use Rattle.edits.specs.declared.layout.Layout.{Layout}
-use Rattle.edits.specs.declared.names.FileName.TheVariants.{Current, Log, Manifest, OldTable, Table}
+use Rattle.edits.specs.declared.names.FileName.TheVariants.{Current, Lock, Log, Manifest, OldTable, Table}
 use Rattle.ikey.specs.Orders.{Order}
 use Rattle.ikey.specs.Views.{AllUpTo}
 use Rattle.ikey.specs.declared.entry.Entry.{Entry}
@@ -17,6 +17,7 @@ use Rattle.opening.specs.Losses.{AreSpared, IsKept, IsLogRead, logs_in_doubt}
 use Rattle.opening.specs.internal.Directories.{CanAppend}
 use Rattle.opening.proofs.Cutting.{cut_directory}
 use Rattle.opening.proofs.LosingEdits.{spared_on}
+use Rattle.opening.proofs.Reopening.{files_apart}
 use Rattle.opening.proofs.Spared.{left_by_loss}
 use Rattle.recover.proofs.Adding.{current_apart, logged-extended, logs_apart, manifest_apart, old_table_apart, table_apart, table_of}
 use Rattle.recover.proofs.Keeping.{live_of}
@@ -27,7 +28,7 @@ use Rattle.recover.specs.Logs.{AreLive, HasLogs, InLogs, LogContent, NumbersRise
 use Rattle.recover.specs.Tables.{TableContent, tabled}
 use Rattle.recover.specs.internal.Changes.{IsExtended}
 use Rattle.store.specs.Calls.{Adds, Idles}
-use Rattle.store.specs.Files.{Addition, AppendsBeginning, Call, Disk, Facts, Files, Sync, Synced, disk_of, with_synced}
+use Rattle.store.specs.Files.{Addition, AppendsBeginning, Call, Disk, Facts, Files, Sync, Synced, disk_of, lock_name, with_synced}
 use Rattle.store.specs.Losses.{CarriesBut, PutsSynced}
 use Rattle.table_access.specs.Tables.{Seen}
 use Rattle.store.proofs.Carrying.{carries_begun, carries_same, carries_synced}
@@ -46,12 +47,12 @@ use Rattle.engine.proofs.Tabled.{directory_bounded}
 use Rattle.engine.proofs.WriteSynced.{kept_each}
 use Rattle.engine.specs.Losses.{HoldsFirst, LosesFirst, LosesOver, SparesFound}
 use Rattle.engine.specs.OpenDb.{OpenDb}
+use Rattle.engine.specs.Reopening.{KeepsFound, StaysOrGoes}
 use Rattle.engine.specs.Stands.{StandsOver}
 use Rattle.engine.specs.declared.ids.Ids.{Ids}
 use Rattle.engine.specs.internal.Logs.{HasLastLog, LeavesOrSyncs, PutsBatch, SyncsEach, SyncsThenPuts}
 use Rattle.engine.specs.internal.Recent.{AreRecent}
 use Rattle.engine.specs.internal.Standing.{IsServing, StandsWhole}
-use Rattle.engine.specs.internal.Stopping.{KeepsFound, StaysOrGoes}
 use Rattle.engine.specs.internal.Synced.{AreSyncedBut, HaveNames, HaveStayed}
 
 module _ {K : Type 0} {g : _} (order : Order) (db : OpenDb K g) (names : HaveNames db.log db.directory db.tables) where
@@ -96,7 +97,7 @@ module _ {K : Type 0} {g : _} (order : Order) (db : OpenDb K g) (names : HaveNam
     stays_still q = inr (same_file q, keeps_still q)
 
     found_still : KeepsFound a b db
-    found_still = record { current = same_file (name_of Current); each = λ n num below. (stays_still (name_of (Table n)), stays_still (name_of (OldTable n)), stays_still (name_of (Log n))) }
+    found_still = record { current = same_file (name_of Current); lock = same_file lock_name; each = λ n num below. (stays_still (name_of (Table n)), stays_still (name_of (OldTable n)), stays_still (name_of (Log n))) }
 
     can_still : CanLoseHere b d m
     can_still =
@@ -205,6 +206,7 @@ module _ {K : Type 0} {g : _} (order : Order) (db : OpenDb K g) (names : HaveNam
         let last = names.last.0 in
         record {
           current = other_file (name_of Current) (current_apart db.log.number last);
+          lock = other_file lock_name (files_apart Lock (Log db.log.number) tt last (λ e. cc));
           each = λ n num below. (
             other_stays (name_of (Table n)) (table_apart n db.log.number num last),
             other_stays (name_of (OldTable n)) (old_table_apart n db.log.number num last),
@@ -412,7 +414,7 @@ module _ {K : Type 0} {g : _} (order : Order) (source : Seen) (ids : Ids) (db : 
 
 -- the files that the open found are as they were
 pub found_unwritten : {K : Type 0} {g : _} (facts : Facts) (db : OpenDb K g) → KeepsFound facts facts db
-found_unwritten facts db = record { current = refl; each = λ n num below. (inr (refl, λ kept. kept), inr (refl, λ kept. kept), inr (refl, λ kept. kept)) }
+found_unwritten facts db = record { current = refl; lock = refl; each = λ n num below. (inr (refl, λ kept. kept), inr (refl, λ kept. kept), inr (refl, λ kept. kept)) }
 
 -- in a session, whatever its state
 pub any_unwritten : {K : Type 0} {g : _} (order : Order) (source : Seen) (ids : Ids) (o : Option (OpenDb K g)) (m : Machine) (operations : List Operation) → m.damaged ≡ false → StandsOver order source ids o m

@@ -49,7 +49,7 @@ module _ (now : Disk) (fewer : Synced) (less : (q bytes : List ℕ) → fewer q 
   since_then lost (call ∷ calls) (inr later) = inr (since_then lost calls later)
 
 -- what a call since the last sync found, or what is there now
-lost_now : (facts : Facts) (lost : Files) → IsLostSince (behind_sync [] facts.calls) (disk_of facts) lost → Lost facts (moment facts) lost
+pub lost_now : (facts : Facts) (lost : Files) → IsLostSince (behind_sync [] facts.calls) (disk_of facts) lost → Lost facts (moment facts) lost
 lost_now facts lost h =
     let n = length facts.calls in
     let front : take n facts.calls ≡ facts.calls = take_all n facts.calls (omega arith) in

@@ -21,7 +21,7 @@ use Rattle.recover.specs.Logs.{HasLogs, InLogs, LogContent}
 use Rattle.recover.specs.Tables.{InTables, TableContent, tabled}
 use Rattle.store.proofs.Carrying.{carries_writes}
 use Rattle.store.proofs.LosingOn.{KeepsAt, keeps_now, loses_read, puts_calls}
-use Rattle.store.specs.Files.{Call, Disk, Facts, Files}
+use Rattle.store.specs.Files.{Call, Disk, Facts, Files, lock_name}
 use Rattle.store.specs.Losses.{PutsSynced}
 use Rattle.store.specs.Stops.{LeavesOnly, LeftDuring, WritesOnly}
 use Rattle.table_access.specs.Tables.{Seen}
@@ -34,9 +34,9 @@ use Rattle.engine.proofs.StayedNames.{SparesRead, first_least, stayed_on}
 use Rattle.engine.proofs.Synced.{kept_still}
 use Rattle.engine.specs.Losses.{HoldsFirst, LosesFirst, SparesFound}
 use Rattle.engine.specs.OpenDb.{OpenDb}
+use Rattle.engine.specs.Reopening.{KeepsFound}
 use Rattle.engine.specs.internal.Recent.{AreRecent}
 use Rattle.engine.specs.internal.Standing.{IsServing, entries_of}
-use Rattle.engine.specs.internal.Stopping.{KeepsFound}
 use Rattle.engine.specs.internal.Synced.{HaveStayed}
 
 -- what is so of all that a stop leaves, and what else is
@@ -151,10 +151,11 @@ module _ {K : Type 0} {g : _} (order : Order) (source : Seen) (db : OpenDb K g) 
 -- ---- the files that were there before the open
 
 -- they are as they were
-pub found_by : {K : Type 0} {g : _} (old new : Facts) (db : OpenDb K g) → get new.files (name_of Current) ≡ get old.files (name_of Current)
+pub found_by : {K : Type 0} {g : _} (old new : Facts) (db : OpenDb K g) → get new.files (name_of Current) ≡ get old.files (name_of Current) → get new.files lock_name ≡ get old.files lock_name
     → ((n : ℕ) → IsNumbered n → n < db.directory.manifest.number → LeavesFile old new (name_of (Table n)) × LeavesFile old new (name_of (OldTable n)) × LeavesFile old new (name_of (Log n))) → KeepsFound old new db
-found_by old new db current each = record {
+found_by old new db current lock each = record {
   current = current;
+  lock = lock;
   each = λ n numbered below.
       let left = each n numbered below in (
         inr (left.0.0, kept_still old new (name_of (Table n)) left.0),
@@ -164,11 +165,11 @@ found_by old new db current each = record {
 }
 
 -- none of the names that are written is one of theirs
-pub found_written : {K : Type 0} {g : _} (old new : Facts) (db : OpenDb K g) (mine : List ℕ → Type 0) → WritesOnly old new mine → (mine (name_of Current) → ⊥)
+pub found_written : {K : Type 0} {g : _} (old new : Facts) (db : OpenDb K g) (mine : List ℕ → Type 0) → WritesOnly old new mine → (mine (name_of Current) → ⊥) → (mine lock_name → ⊥)
     → ((n : ℕ) → IsNumbered n → n < db.directory.manifest.number → (mine (name_of (Table n)) → ⊥) × (mine (name_of (OldTable n)) → ⊥) × (mine (name_of (Log n)) → ⊥)) → KeepsFound old new db
-found_written old new db mine writes current each =
+found_written old new db mine writes current lock each =
     let leaves : (q : List ℕ) → (mine q → ⊥) → LeavesFile old new q = λ q apart. (writes.leaves.now q apart, writes.synced q apart) in
-    found_by old new db (leaves (name_of Current) current).0
+    found_by old new db (leaves (name_of Current) current).0 (leaves lock_name lock).0
     (λ n numbered below. let apart = each n numbered below in (leaves (name_of (Table n)) apart.0, leaves (name_of (OldTable n)) apart.1, leaves (name_of (Log n)) apart.2))
 
 -- ---- an edit

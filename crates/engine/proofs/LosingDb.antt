@@ -4,6 +4,7 @@ use Rattle.batch.specs.declared.operation.Operation.{Operation}
 use Rattle.ikey.specs.Orders.{Order}
 use Rattle.machine.specs.Access.{Writes, accepted}
 use Rattle.machine.specs.Machine.{Machine}
+use Rattle.machine.specs.declared.command.Answer.{Answer}
 use Rattle.machine.specs.declared.command.Answer.TheVariants.{Done}
 use Rattle.opening.specs.Losses.{LeavesUncut}
 use Rattle.store.specs.Files.{Facts}
@@ -17,13 +18,15 @@ use Rattle.engine.specs.Headline.{HoldsAccepted}
 use Rattle.engine.specs.Losses.{DbLoses, DbLosesWrite, LosesOver, OpensOver}
 use Rattle.engine.specs.OpenDb.{OpenDb}
 use Rattle.engine.specs.Pace.{OnlyDraws}
+use Rattle.engine.specs.Reopening.{DbKeepsFound, FoundOver, KeepsFound}
 use Rattle.engine.specs.Stands.{StandsOver}
 use Rattle.engine.specs.StandsDb.{FollowsDb, db_ids_of, db_store_of, open_by, seen_by}
 use Rattle.engine.specs.Stops.{DbStops}
-use Rattle.engine.specs.Touching.{CloseTouches}
+use Rattle.engine.specs.Touching.{CloseTouches, OpenTouches}
 use Rattle.engine.specs.declared.db.Db.{Db}
 use Rattle.engine.specs.declared.ids.Ids.{Ids}
-use Rattle.engine.specs.internal.Stopping.{DbKeepsFound, KeepsOpen}
+use Rattle.engine.specs.internal.Standing.{StandsWhole}
+use Rattle.engine.specs.internal.Stopping.{KeepsOpen}
 
 -- ---- calls of a database
 
@@ -87,6 +90,18 @@ module _ {S K : Type 0} {g : _} (order : Order) (facts : S → Facts) where
           (ap (λ (x : Machine). x.broken) is ∙ same.2) kept (accepted m operations false) (ap (λ (x : Machine). x.base) is ∙ same.0) (ap (λ (x : Machine). x.batches) is ∙ same.1) (omega (arith, least, synced))
           (facts (db_store_of new)) (λ unbroken. next f n still one.2 unbroken))
 
+      pub db_found_written : DbKeepsFound order facts mid new → DbKeepsFound order facts old new
+      db_found_written next f m undamaged s whole =
+          let one = step.moved (back f) m s in
+          let n = one.0 in
+          let is = (done_by m n operations sync one.1).1 in
+          let same = same_accepted m sync operations in
+          let still : n.damaged ≡ false = writes_flag m n operations sync Done one.1 ∙ undamaged in
+          let kept = found (back f) m undamaged s whole in
+          found_then (facts (db_store_of old)) (facts (db_store_of mid)) (facts (db_store_of new)) (open_by old) kept
+          (found_behind order (seen_by facts old) (seen_by facts mid) (db_ids_of old) (db_ids_of mid) (open_by old) (open_by mid) m n (record { stands = s; undamaged = undamaged }) whole (record { stands = one.2; undamaged = still })
+          (ap (λ (x : Machine). x.broken) is ∙ same.2) kept (facts (db_store_of new)) (λ unbroken. next f n still one.2 unbroken))
+
 -- ---- commands of a session
 
 -- one that changes nothing
@@ -118,3 +133,27 @@ pub loses_lent : {K : Type 0} {g : _} (order : Order) (source new : Seen) (ids :
 loses_lent order source new ids o db is keeps f m undamaged s =
     subst (λ (x : Option (OpenDb _ _)). LosesOver order source.facts new.facts x m) (sym is)
     (λ whole. keeps.loses f ids m (record { stands = subst (λ (x : Option (OpenDb _ _)). StandsOver order source ids x m) is s; undamaged = undamaged }) whole)
+
+-- ---- what stays of the files that the open found
+
+-- behind a command that changes nothing
+pub found_standing : {K : Type 0} {g : _} (o : Option (OpenDb K g)) (old new : Facts) → (IsTrue new.faithful → new.files ≡ old.files) → (IsTrue new.faithful → new.synced ≡ old.synced) → IsTrue new.faithful → FoundOver old new o
+found_standing None old new files synced f = tt
+found_standing (Some db) old new files synced f = λ whole. found_same old new db (files f) (synced f)
+
+-- an open, which changes nothing where a database is open
+pub found_opened : {K : Type 0} {g : _} (o : Option (OpenDb K g)) (old new : Facts) (answer : Answer) → OpenTouches o old new answer → IsTrue new.faithful → FoundOver old new o
+found_opened None old new answer touches f = tt
+found_opened (Some db) old new answer touches f = λ whole. found_same old new db (touches.files f) (touches.synced f)
+
+pub found_closed : {K : Type 0} {g : _} (o : Option (OpenDb K g)) (old new : Facts) → CloseTouches o old new → IsTrue new.faithful → FoundOver old new o
+found_closed None old new touches f = tt
+found_closed (Some db) old new touches f = λ whole. found_same old new db (touches.files f) (touches.synced f)
+
+-- one that an open database did
+pub found_lent : {K : Type 0} {g : _} (order : Order) (source : Seen) (new : Facts) (ids : Ids) (o : Option (OpenDb K g)) (db : OpenDb K g) → o ≡ Some db
+    → (IsTrue new.faithful → (ids : Ids) (m : Machine) → StandsWhole order source ids db m → db.broken ≡ false → KeepsFound source.facts new db)
+    → IsTrue new.faithful → (m : Machine) → m.damaged ≡ false → StandsOver order source ids o m → FoundOver source.facts new o
+found_lent order source new ids o db is keeps f m undamaged s =
+    subst (λ (x : Option (OpenDb _ _)). FoundOver source.facts new x) (sym is)
+    (λ whole. keeps f ids m (record { stands = subst (λ (x : Option (OpenDb _ _)). StandsOver order source ids x m) is s; undamaged = undamaged }) whole)

@@ -28,8 +28,8 @@ use Rattle.engine.proofs.Losing.{counted_within}
 use Rattle.engine.proofs.RecentLosses.{recent_cut}
 use Rattle.engine.specs.Losses.{HoldsFirst, LosesFirst, SparesFound}
 use Rattle.engine.specs.OpenDb.{OpenDb}
+use Rattle.engine.specs.Reopening.{KeepsFound, StaysOrGoes}
 use Rattle.engine.specs.internal.Recent.{AreRecent}
-use Rattle.engine.specs.internal.Stopping.{KeepsFound, StaysOrGoes}
 use Rattle.engine.specs.internal.Synced.{HaveStayed}
 
 -- ---- what a directory stands for at that moment
@@ -138,6 +138,7 @@ goes_on old then new q (inr was) (inr same) = inr (same.0 ∙ was.0, λ kept. sa
 pub found_then : {K : Type 0} {g : _} (old then new : Facts) (db : OpenDb K g) → KeepsFound old then db → KeepsFound then new db → KeepsFound old new db
 found_then old then new db first next = record {
   current = next.current ∙ first.current;
+  lock = next.lock ∙ first.lock;
   each = λ n num below.
       let a = first.each n num below in
       let b = next.each n num below in

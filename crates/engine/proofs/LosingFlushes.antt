@@ -6,7 +6,7 @@ use Rattle.directory_writes.specs.internal.Flush.{FlushTouches, HasFlushed, IsTa
 use Rattle.directory_writes.specs.internal.Putting.{WritesThenPuts}
 use Rattle.edits.specs.Names.{name_of, IsFileName, IsNumbered}
 use Rattle.edits.specs.declared.names.FileName.{FileName}
-use Rattle.edits.specs.declared.names.FileName.TheVariants.{Current, Log, Manifest, OldTable, Table}
+use Rattle.edits.specs.declared.names.FileName.TheVariants.{Current, Lock, Log, Manifest, OldTable, Table}
 use Rattle.ikey.specs.Orders.{Order}
 use Rattle.ikey.specs.Sources.{SameEntries}
 use Rattle.ikey.specs.Views.{Among}
@@ -33,9 +33,9 @@ use Rattle.engine.proofs.StayedNames.{SparesRead, spares_tables}
 use Rattle.engine.proofs.Synced.{no_old_table, no_table, one_number}
 use Rattle.engine.specs.Losses.{LosesFirst}
 use Rattle.engine.specs.OpenDb.{OpenDb}
+use Rattle.engine.specs.Reopening.{KeepsFound}
 use Rattle.engine.specs.internal.Recent.{AreRecent}
 use Rattle.engine.specs.internal.Standing.{IsServing}
-use Rattle.engine.specs.internal.Stopping.{KeepsFound}
 
 -- ---- a directory with the table that was flushed
 
@@ -130,7 +130,7 @@ module _ {K : Type 0} {g : _} (order : Order) (old : Seen) (new : Facts) (db : O
       omega (arith, number, below, least, number_is, next_is)
 
   found_flush : (mid : Facts) → WritesOnly old.facts mid Written → KeepsFound old.facts mid db
-  found_flush mid writes = found_written old.facts mid db Written writes (files_apart Current (Table next) tt numbered_next (λ e. cc))
+  found_flush mid writes = found_written old.facts mid db Written writes (files_apart Current (Table next) tt numbered_next (λ e. cc)) (files_apart Lock (Table next) tt numbered_next (λ e. cc))
       (λ n numbered below. (
         files_apart (Table n) (Table next) numbered numbered_next (found_apart n below),
         files_apart (OldTable n) (Table next) numbered numbered_next (λ e. cc),
@@ -146,7 +146,7 @@ module _ {K : Type 0} {g : _} (order : Order) (old : Seen) (new : Facts) (db : O
       let table = files_apart file (Table next) is numbered_next apart in
       let beside : name_of file ≢ string_bytes db.directory.manifest.name = λ e. files_apart file (Manifest db.directory.manifest.number) is manifest.0 other (e ∙ manifest.1) in
       (touches.others f (name_of file) table beside, touches.synced f (name_of file) table beside) in
-      found_by old.facts new db (left Current tt (λ e. cc) (λ e. cc)).0
+      found_by old.facts new db (left Current tt (λ e. cc) (λ e. cc)).0 (left Lock tt (λ e. cc) (λ e. cc)).0
       (λ n numbered below. (
         left (Table n) numbered (found_apart n below) (λ e. cc),
         left (OldTable n) numbered (λ e. cc) (λ e. cc),

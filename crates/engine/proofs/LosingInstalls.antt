@@ -9,7 +9,7 @@ use Rattle.directory_writes.specs.internal.Putting.{WritesThenPuts}
 use Rattle.edits.specs.Names.{IsFileName, IsNumbered, name_of}
 use Rattle.edits.specs.declared.field.PlacedTable.{PlacedTable}
 use Rattle.edits.specs.declared.names.FileName.{FileName}
-use Rattle.edits.specs.declared.names.FileName.TheVariants.{Current, Log, Manifest, OldTable, Table}
+use Rattle.edits.specs.declared.names.FileName.TheVariants.{Current, Lock, Log, Manifest, OldTable, Table}
 use Rattle.ikey.specs.Orders.{Order}
 use Rattle.ikey.specs.Views.{AllUpTo, Among, Contents, IsView}
 use Rattle.ikey.specs.declared.entry.Entry.{Entry}
@@ -29,6 +29,7 @@ use Rattle.store.specs.Files.{Facts, Files}
 use Rattle.store.specs.Losses.{StaysNamed, StaysOrBegins}
 use Rattle.store.specs.Stops.{LeavesOnly, WritesOnly}
 use Rattle.table_access.specs.Tables.{Seen, SoundLasts}
+use Rattle.engine.specs.Reopening.{KeepsFound}
 use Rattle.engine.specs.internal.Compacting.{IsCompacting}
 use Rattle.engine.proofs.Installing.{at_hand, can_end, fewer_tabled, leaves_file, seen_above_tables, spares_written}
 use Rattle.engine.proofs.Losing.{listed, read_live}
@@ -41,7 +42,6 @@ use Rattle.engine.specs.Losses.{LosesFirst}
 use Rattle.engine.specs.OpenDb.{OpenDb, whole_of}
 use Rattle.engine.specs.internal.Recent.{AreRecent}
 use Rattle.engine.specs.internal.Standing.{IsServing}
-use Rattle.engine.specs.internal.Stopping.{KeepsFound}
 use Rattle.engine.specs.internal.Synced.{HaveStayed}
 
 module _ {K : Type 0} {g : _} (order : Order) (kept : (scan : Scan K g) → ScanIsKept order.cmp scan) (one : OneDirectoryLaw) (lasts : SoundLasts)
@@ -185,7 +185,7 @@ module _ {K : Type 0} {g : _} (order : Order) (kept : (scan : Scan K g) → Scan
 
     found_mid : (mid : Facts) → WritesOnly old.facts mid Written → KeepsFound old.facts mid db
     found_mid mid writes =
-        found_written old.facts mid db Written writes (beside Current tt (λ number at e. cc))
+        found_written old.facts mid db Written writes (beside Current tt (λ number at e. cc)) (beside Lock tt (λ number at e. cc))
         (λ n num below. (
           beside (Table n) num (λ number at. since n number below at),
           beside (OldTable n) num (λ number at e. cc),
@@ -199,7 +199,7 @@ module _ {K : Type 0} {g : _} (order : Order) (kept : (scan : Scan K g) → Scan
         let other : (file : FileName) → IsFileName file → file ≢ Manifest db.directory.manifest.number → name_of file ≢ string_bytes db.directory.manifest.name =
         λ file is apart e. files_apart file (Manifest db.directory.manifest.number) is manifest.0 apart (e ∙ manifest.1) in
         let left = leaves_file order kept one lasts old facts db m serving work c ended f touches in
-        found_by old.facts facts db (left Current tt (λ number at e. cc) (other Current tt (λ e. cc))).0
+        found_by old.facts facts db (left Current tt (λ number at e. cc) (other Current tt (λ e. cc))).0 (left Lock tt (λ number at e. cc) (other Lock tt (λ e. cc))).0
         (λ n num below. (
           left (Table n) num (λ number at. since n number below at) (other (Table n) num (λ e. cc)),
           left (OldTable n) num (λ number at e. cc) (other (OldTable n) num (λ e. cc)),

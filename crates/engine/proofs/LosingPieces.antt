@@ -4,14 +4,15 @@ use Rattle.std.specs.FinMap.{get}
 use Rattle.directory_writes.specs.Removal.{IsDead, IsLiveAmong}
 use Rattle.directory_writes.specs.internal.Calls.{LeavesFile}
 use Rattle.edits.specs.Names.{name_of}
-use Rattle.edits.specs.declared.names.FileName.TheVariants.{Current, Log, OldTable, Table}
+use Rattle.edits.specs.declared.names.FileName.{FileName}
+use Rattle.edits.specs.declared.names.FileName.TheVariants.{Current, Lock, Log, OldTable, Table}
 use Rattle.ikey.specs.Orders.{Order}
 use Rattle.machine.specs.Machine.{Machine}
 use Rattle.opening.proofs.Cutting.{cut_directory}
 use Rattle.opening.proofs.Spared.{left_by_loss}
 use Rattle.recover.proofs.OneMeaning.{same_current}
 use Rattle.recover.specs.Directory.{IsConsistent}
-use Rattle.store.specs.Files.{Facts, Files, Synced}
+use Rattle.store.specs.Files.{Facts, Files, Synced, lock_name}
 use Rattle.store.specs.Stops.{WritesOnly}
 use Rattle.store.proofs.LosingOn.{loses_same}
 use Rattle.table_access.specs.Tables.{Seen}
@@ -20,15 +21,15 @@ use Rattle.engine.proofs.Losing.{spared}
 use Rattle.engine.proofs.LosingCalls.{can_serving, writes_first}
 use Rattle.engine.proofs.LosingFirst.{first_as, first_here, found_here}
 use Rattle.engine.proofs.Origins.{undamaged_serving}
-use Rattle.engine.proofs.StayedNames.{SparesRead, spares_dead}
+use Rattle.engine.proofs.StayedNames.{SparesRead, not_dead, spares_dead}
 use Rattle.engine.proofs.Steps.{serving_of}
 use Rattle.engine.specs.InUse.{IsTableUsed}
 use Rattle.engine.specs.Losses.{HoldsFirst, LosesFirst, SparesFound}
 use Rattle.engine.specs.OpenDb.{OpenDb}
+use Rattle.engine.specs.Reopening.{KeepsFound, StaysOrGoes}
 use Rattle.engine.specs.Working.{numbers_of}
 use Rattle.engine.specs.declared.ids.Ids.{Ids}
 use Rattle.engine.specs.internal.Standing.{IsBroken, IsServing, StandsOpen, StandsWhole}
-use Rattle.engine.specs.internal.Stopping.{KeepsFound, StaysOrGoes}
 
 -- ---- what an open database stands for
 
@@ -50,7 +51,7 @@ same_file old new q left = inr (left.0, λ kept bytes there. left.1 ∙ kept byt
 pub found_same : {K : Type 0} {g : _} (old new : Facts) (db : OpenDb K g) → new.files ≡ old.files → new.synced ≡ old.synced → KeepsFound old new db
 found_same old new db files synced =
     let same : (q : List ℕ) → StaysOrGoes old new q = λ q. same_file old new q (ap (λ (fs : Files). get fs q) files, ap (λ (s : Synced). s q) synced) in
-    record { current = ap (λ (fs : Files). get fs (name_of Current)) files; each = λ n num below. (same (name_of (Table n)), same (name_of (OldTable n)), same (name_of (Log n))) }
+    record { current = ap (λ (fs : Files). get fs (name_of Current)) files; lock = ap (λ (fs : Files). get fs lock_name) files; each = λ n num below. (same (name_of (Table n)), same (name_of (OldTable n)), same (name_of (Log n))) }
 
 pub first_same : {K : Type 0} {g : _} (order : Order) (source : Seen) (ids : Ids) (db : OpenDb K g) (m : Machine) (new : Facts) → StandsWhole order source ids db m → db.broken ≡ false
     → new.calls ≡ source.facts.calls → new.files ≡ source.facts.files → new.synced ≡ source.facts.synced → LosesFirst order source.facts new db m
@@ -78,9 +79,11 @@ module _ {K : Type 0} {g : _} (order : Order) (source : Seen) (ids : Ids) (db : 
 
   pub found_cleaned : WritesOnly source.facts new Dead → ((q : List ℕ) → LeavesFile source.facts new q ⊎ (get new.files q ≡ None)) → KeepsFound source.facts new db
   found_cleaned writes left =
+      let live : FileName → Type 0 = IsLiveAmong source.facts.files (numbers_of db.directory) (λ number. IsTableUsed db.tables db.job db.iterators number) in
       let each : (q : List ℕ) → StaysOrGoes source.facts new q = λ q. elim (left q) [ inl same ↦ same_file source.facts new q same | inr gone ↦ inl gone ] in
       record {
         current = writes.leaves.now (name_of Current) dead_unread.current;
+        lock = writes.leaves.now lock_name (not_dead live Lock tt tt);
         each = λ n num below. (each (name_of (Table n)), each (name_of (OldTable n)), each (name_of (Log n)));
       }
 
@@ -119,4 +122,4 @@ module _ {K : Type 0} {g : _} (order : Order) (old mid : Seen) (ids given : Ids)
   pub found_behind : (new : Facts) → (between.broken ≡ false → KeepsFound mid.facts new between) → KeepsFound mid.facts new before
   found_behind new h =
       let keeps = h still_whole in
-      record { current = keeps.current; each = λ k num below. keeps.each k num (subst (λ (bound : ℕ). k < bound) (sym same_number) below) }
+      record { current = keeps.current; lock = keeps.lock; each = λ k num below. keeps.each k num (subst (λ (bound : ℕ). k < bound) (sym same_number) below) }

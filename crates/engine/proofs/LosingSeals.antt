@@ -6,7 +6,7 @@ use Rattle.directory_writes.specs.internal.Calls.{LeavesFile}
 use Rattle.directory_writes.specs.internal.LogFile.{HasNewLog}
 use Rattle.edits.specs.Names.{IsFileName, IsNumbered, name_of}
 use Rattle.edits.specs.declared.names.FileName.{FileName}
-use Rattle.edits.specs.declared.names.FileName.TheVariants.{Current, Log, Manifest, OldTable, Table}
+use Rattle.edits.specs.declared.names.FileName.TheVariants.{Current, Lock, Log, Manifest, OldTable, Table}
 use Rattle.edits.specs.declared.numbers.FileNumbers.{FileNumbers}
 use Rattle.ikey.specs.Orders.{Order}
 use Rattle.ikey.specs.declared.entry.Entry.{Entry}
@@ -39,9 +39,9 @@ use Rattle.engine.proofs.StayedNames.{stayed_begun}
 use Rattle.engine.proofs.Synced.{kept_still, table_still}
 use Rattle.engine.specs.Losses.{HoldsFirst, LosesFirst, SparesFound}
 use Rattle.engine.specs.OpenDb.{OpenDb}
+use Rattle.engine.specs.Reopening.{KeepsFound}
 use Rattle.engine.specs.internal.Recent.{AreRecent}
 use Rattle.engine.specs.internal.Standing.{IsServing}
-use Rattle.engine.specs.internal.Stopping.{KeepsFound}
 use Rattle.engine.specs.internal.Synced.{HaveStayed}
 
 pub in_pushed : (logs : List LogContent) (log : LogContent) (n : ℕ) → InLogs (logs ++ log ∷ []) n → InLogs logs n ⊎ (n ≡ log.number)
@@ -182,7 +182,7 @@ module _ {K : Type 0} {g : _} (order : Order) (source : Seen) (db : OpenDb K g) 
 
   as_it_was : (then : Facts) → ((q : List ℕ) → q ≢ name → LeavesFile old then q) → KeepsFound old then db
   as_it_was then same_files =
-      found_by old then db (same_files (name_of Current) (files_apart Current (Log next) tt numbered_next (λ e. cc))).0
+      found_by old then db (same_files (name_of Current) (files_apart Current (Log next) tt numbered_next (λ e. cc))).0 (same_files (name_of Lock) (files_apart Lock (Log next) tt numbered_next (λ e. cc))).0
       (λ n num below. (
         same_files (name_of (Table n)) (files_apart (Table n) (Log next) num numbered_next (λ e. cc)),
         same_files (name_of (OldTable n)) (files_apart (OldTable n) (Log next) num numbered_next (λ e. cc)),

@@ -3,7 +3,7 @@ use Rattle.std.proofs.Common.{◌≡◌, ◌≤◌, ◌+◌, ℕ, Some, IsTrue, 
 use Rattle.compact.specs.Outputs.{IsMineUpTo, IsTableName}
 use Rattle.edits.specs.Names.{IsFileName, IsNumbered, name_of}
 use Rattle.edits.specs.declared.names.FileName.{FileName}
-use Rattle.edits.specs.declared.names.FileName.TheVariants.{Current, Log, OldTable, Table}
+use Rattle.edits.specs.declared.names.FileName.TheVariants.{Current, Lock, Log, OldTable, Table}
 use Rattle.edits.specs.declared.numbers.FileNumbers.{FileNumbers}
 use Rattle.ikey.specs.Orders.{Order}
 use Rattle.recover.specs.internal.Laws.{OneDirectoryLaw}
@@ -21,8 +21,8 @@ use Rattle.engine.proofs.Stepping.{mine_numbered, spares_written, the_job}
 use Rattle.engine.proofs.Synced.{one_number}
 use Rattle.engine.specs.Losses.{LosesFirst}
 use Rattle.engine.specs.OpenDb.{OpenDb, whole_of}
+use Rattle.engine.specs.Reopening.{KeepsFound}
 use Rattle.engine.specs.internal.Standing.{IsServing}
-use Rattle.engine.specs.internal.Stopping.{KeepsFound}
 
 module _ {K : Type 0} {g : _} (order : Order) (kept : (scan : Scan K g) → ScanIsKept order.cmp scan) (one : OneDirectoryLaw)
     (old new : Seen) (db : OpenDb K g) (memory : Memories) (numbers : FileNumbers) (most : ℕ) (before after : OpenJob K g) (is : db.job ≡ Some before)
@@ -55,7 +55,7 @@ module _ {K : Type 0} {g : _} (order : Order) (kept : (scan : Scan K g) → Scan
   -- and that weren't there before the open
   pub step_found : KeepsFound old.facts new.facts db
   step_found =
-      found_written old.facts new.facts db (IsTableName (IsMineUpTo before.job.outputs db.directory.numbers.next numbers.next)) (touches.writes.calls f) (beside Current tt (λ number mine e. cc))
+      found_written old.facts new.facts db (IsTableName (IsMineUpTo before.job.outputs db.directory.numbers.next numbers.next)) (touches.writes.calls f) (beside Current tt (λ number mine e. cc)) (beside Lock tt (λ number mine e. cc))
       (λ n num below. (
         beside (Table n) num (λ number mine e. (let same : number ≡ n = one_number e in let least = since number mine in omega (arith, same, least, below))),
         beside (OldTable n) num (λ number mine e. cc),

@@ -12,7 +12,6 @@ pub mod Logs
 pub mod Outcomes
 pub mod Pieces
 pub mod Recent
-pub mod Reopening
 pub mod Resting
 pub mod Shorthands
 pub mod Standing

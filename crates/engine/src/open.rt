@@ -16,7 +16,7 @@ ghost use Rattle.engine.specs.internal.Standing.{StandsClosed};
 ghost use Rattle.engine.specs.Follows.{Leads, unit_answer};
 ghost use Rattle.engine.specs.declared.ids.Ids.{Ids};
 ghost use Rattle.engine.specs.Opened.{IsTidy};
-ghost use Rattle.engine.specs.internal.Reopening.{LosesLasting};
+ghost use Rattle.engine.specs.Reopening.{LosesOn, OpenLosesOn};
 ghost use Rattle.engine.specs.internal.Resting.{LosesMeaning, Rests, StandsResult, is_of_memory};
 ghost use Rattle.opening.specs.internal.Opening.{IsContinued};
 ghost use Rattle.opening.specs.internal.Durable.{HasDurable, Spares};
@@ -73,10 +73,8 @@ pub fn open_store<K: KeyOrder, S: Store>(
         → m.damaged ≡ false → StandsClosed (order_of K.name K.cmp) (S.facts source.old.tables.store) ids m
         → ((name : List ℕ) → StaysNamed (S.facts source.old.tables.store) name)
         → LosesMeaning (order_of K.name K.cmp) (S.facts source.old.tables.store) (S.facts source.new.tables.store) m }
-    // And of a store that lasts the first of the accepted batches are left.
-    ensures lasting { IsTrue (S.facts source.new.tables.store).faithful → (ids : Ids) (m : Machine)
-        → m.damaged ≡ false → StandsClosed (order_of K.name K.cmp) (S.facts source.old.tables.store) ids m
-        → LosesLasting (order_of K.name K.cmp) (S.facts source.old.tables.store) (S.facts source.new.tables.store) }
+    // And where each loss in front of it leaves the first of the batches, so does each in its middle.
+    ensures loses_on { (ids : Ids) → OpenLosesOn (order_of K.name K.cmp) (S.facts source.old.tables.store) (S.facts source.new.tables.store) ids }
 {
     // Laws, for the proof alone.
     free_change_law();
@@ -132,11 +130,13 @@ fn open_and_clean<K: KeyOrder, S: Store>(
         → m.damaged ≡ false → Rests (order_of K.name K.cmp) (S.facts source.old.tables.store) ids m
         → HaveNamesStayed (S.facts source.old.tables.store)
         → LosesMeaning (order_of K.name K.cmp) (S.facts source.old.tables.store) (S.facts source.new.tables.store) m }
-    ensures lasting { IsTrue (S.facts source.new.tables.store).faithful → (ids : Ids) (m : Machine)
+    ensures loses_on { IsTrue (S.facts source.new.tables.store).faithful → (ids : Ids) (m : Machine)
         → m.damaged ≡ false → Rests (order_of K.name K.cmp) (S.facts source.old.tables.store) ids m
-        → LosesLasting (order_of K.name K.cmp) (S.facts source.old.tables.store) (S.facts source.new.tables.store) }
+        → LosesOn (order_of K.name K.cmp) (S.facts source.old.tables.store) (S.facts source.new.tables.store) }
 {
     let state = open_locked::<K, S>(alloc, source, options, mode)?;
+    // A law, for the proof alone.
+    source.tables.store.synced_law();
     match state.clean(alloc, source) {
         Ok(_) => Ok(state),
         Err(error) => {
@@ -199,13 +199,14 @@ fn open_locked<K: KeyOrder, S: Store>(
     ensures since { IfOk result (λ state. IsTrue (S.facts source.new.tables.store).faithful
         → BeginsSpared (S.facts source.new.tables.store) (string_bytes state.log.name)) }
     ensures empty { IfOk result (λ state. state.log.end ≡ 0) }
-    ensures lasting { IsTrue (S.facts source.new.tables.store).faithful
-        → LosesLasting (order_of K.name K.cmp) (S.facts source.old.tables.store) (S.facts source.new.tables.store) }
+    ensures loses_on { IsTrue (S.facts source.new.tables.store).faithful
+        → LosesOn (order_of K.name K.cmp) (S.facts source.old.tables.store) (S.facts source.new.tables.store) }
     ensures renewed { IfOk result (λ state. IsTrue (S.facts source.new.tables.store).faithful
         → RenewsWhole (order_of K.name K.cmp) (S.facts source.old.tables.store) (S.facts source.new.tables.store) state.log state.directory) }
 {
     // Laws, for the proof alone.
     empty_is_sound();
+    source.tables.store.synced_law();
     source.tables.begin(alloc, options.cache_blocks())?;
     let begun = begin::<K, S>(alloc, &mut source.tables.store, mode)?;
     source.memory = begun.memory;

@@ -40,6 +40,7 @@ pub enum Pace {
 impl<S: Store, K: KeyOrder> Db<S, K> {
     ghost use Rattle.engine.specs.Losses.{DbLoses, DbLosesWrite};
     ghost use Rattle.engine.specs.Outcomes.{MayRefuseWork, MayRefuseWrite};
+    ghost use Rattle.engine.specs.Reopening.{DbKeepsFound};
     ghost use Rattle.engine.specs.Pace.{HasKeptUp, OnlyDraws, OnlyWorks, WorksAtPace, WritesAtPace};
     ghost use Rattle.engine.specs.StandsDb.{FollowsDb, KeepsOpening, db_ids_of, db_options_of, open_by};
     ghost use Rattle.engine.specs.Stops.{DbStops, DbStopsWrite};
@@ -60,6 +61,7 @@ impl<S: Store, K: KeyOrder> Db<S, K> {
         // A stop in its middle leaves what was accepted, and a loss of power the first of it.
         ensures stops { DbStops (order_of K.name K.cmp) S.facts self.old self.new }
         ensures loses { DbLoses (order_of K.name K.cmp) S.facts self.old self.new }
+        ensures found { DbKeepsFound (order_of K.name K.cmp) S.facts self.old self.new }
     {
         for _ in 0..u64::MAX {
             match self.work(alloc, budget) {
@@ -102,6 +104,7 @@ impl<S: Store, K: KeyOrder> Db<S, K> {
         // A stop in its middle leaves what was accepted, with the batch as a whole or without it, and a loss of power the first of it.
         ensures stops { DbStopsWrite (order_of K.name K.cmp) S.facts batch.now self.old self.new }
         ensures loses { DbLosesWrite (order_of K.name K.cmp) S.facts batch.now self.old self.new }
+        ensures found { DbKeepsFound (order_of K.name K.cmp) S.facts self.old self.new }
     {
         let before = self.source.memory.size() as u64;
         self.write(alloc, batch, sync)?;
@@ -125,6 +128,7 @@ impl<S: Store, K: KeyOrder> Db<S, K> {
         ensures opening { KeepsOpening self.old self.new }
         ensures stops { DbStops (order_of K.name K.cmp) S.facts self.old self.new }
         ensures loses { DbLoses (order_of K.name K.cmp) S.facts self.old self.new }
+        ensures found { DbKeepsFound (order_of K.name K.cmp) S.facts self.old self.new }
     {
         for _ in 0..u64::MAX {
             match self.work(alloc, budget) {

@@ -1,9 +1,5 @@
 -- A stop is a failure that nobody saw: what a call leaves where the device fails, a stop in its middle leaves too.
-use Rattle.std.specs.Prelude.{◌≡◌, ◌⊎◌, ◌<◌, ℕ, List, None, false, IsTrue}
-use Rattle.std.specs.FinMap.{get}
-use Rattle.edits.specs.Names.{IsNumbered, name_of}
-use Rattle.edits.specs.declared.names.FileName.TheVariants.{Current, Log, OldTable, Table}
-use Rattle.opening.specs.Losses.{IsKept}
+use Rattle.std.specs.Prelude.{◌≡◌, false, IsTrue}
 use Rattle.store.specs.Files.{Facts, Files}
 use Rattle.store.specs.Stops.{LeavesOnly}
 use Rattle.ikey.specs.Orders.{Order}
@@ -15,8 +11,7 @@ use Rattle.engine.specs.declared.ids.Ids.{Ids}
 use Rattle.engine.specs.declared.state.DbState.{DbState}
 use Rattle.engine.specs.OpenDb.{OpenDb, open_db}
 use Rattle.engine.specs.Losses.{LosesFirst}
-use Rattle.engine.specs.StandsDb.{StandsDb, db_store_of, open_by}
-use Rattle.engine.specs.declared.db.Db.{Db}
+use Rattle.engine.specs.Reopening.{KeepsFound}
 use Rattle.engine.specs.internal.Directory.{MeansAccepted}
 use Rattle.engine.specs.internal.Standing.{StandsWhole}
 
@@ -32,26 +27,11 @@ LosesLent order facts old before new made =
     IsTrue (facts new.tables.store).faithful → (ids : Ids) (m : Machine) → StandsWhole order (seen_of facts old) ids (open_db old.memory before) m → before.broken ≡ false
     → LosesFirst order (facts old.tables.store) (facts new.tables.store) (open_db old.memory before) (made m)
 
--- The file of this name is as it was, and kept if it was, or gone.
-abbrev pub StaysOrGoes : Facts → Facts → List ℕ → Type 0
-StaysOrGoes old new name = (get new.files name ≡ None) ⊎ ((get new.files name ≡ get old.files name) × (IsKept old name → IsKept new name))
-
--- So is each that was there before the open; and `CURRENT` is as it was.
-pub record KeepsFound {K : Type 0} {g : _} (old new : Facts) (db : OpenDb K g) : Type 0 where
-  pub current : get new.files (name_of Current) ≡ get old.files (name_of Current)
-  pub each : (n : ℕ) → IsNumbered n → n < db.directory.manifest.number
-      → StaysOrGoes old new (name_of (Table n)) × StaysOrGoes old new (name_of (OldTable n)) × StaysOrGoes old new (name_of (Log n))
-
--- So it is from each state that it may have been in, not broken.
+-- And the files that the open found stay, or go.
 abbrev pub KeepsFoundLent : {S K : Type 0} {g : _} → Order → (S → Facts) → Sources K S → DbState K g → Sources K S → Type 0
 KeepsFoundLent order facts old before new =
     IsTrue (facts new.tables.store).faithful → (ids : Ids) (m : Machine) → StandsWhole order (seen_of facts old) ids (open_db old.memory before) m → before.broken ≡ false
     → KeepsFound (facts old.tables.store) (facts new.tables.store) (open_db old.memory before)
-
--- So it is from each state without damage of a database that isn't broken.
-abbrev pub DbKeepsFound : {S K : Type 0} {g : _} → Order → (S → Facts) → Db S K g → Db S K g → Type 0
-DbKeepsFound order facts old new = IsTrue (facts (db_store_of new)).faithful → (m : Machine) → m.damaged ≡ false → StandsDb order facts old m → (open_by old).broken ≡ false
-    → KeepsFound (facts (db_store_of old)) (facts (db_store_of new)) (open_by old)
 
 -- What is left at any moment of a call, from each state that it may have been in.
 pub record KeepsOpen {K : Type 0} {g : _} (order : Order) (old new : Seen) (before : OpenDb K g) : Type 0 where

@@ -16,7 +16,7 @@ use Rattle.engine.proofs.OpenMachine.{means_whole, open_refused}
 use Rattle.engine.proofs.Opened.{durable_cleaned, opened_cleaned, spared_cleaned}
 use Rattle.engine.proofs.LosingOpened.{opened_loses}
 use Rattle.engine.proofs.StopSteps.{opened_keeps}
-use Rattle.engine.proofs.LosingClosed.{lasting_opened}
+use Rattle.engine.proofs.ReopeningRemovals.{opened_on}
 use Rattle.engine.proofs.open.open_and_clean.Goals as goal
 
 pub returns-in_err-state-clause-step : goal.returns-in_err-state-clause-step
@@ -179,31 +179,37 @@ returns-then-lacks_memory-clause-loses g c =
     opened_loses (order_of g.K.KeyOrder.name g.K.KeyOrder.cmp) (facts c.args.source.now.tables.store) (seen_of facts mid) (seen_of facts c.clean.new.source) (db_of mid.memory c.in_ok-state.state) c.args.mode
     (c.clean.ensures.step no_ids).faithful o.step o.loses o.begins o.since o.empty o.whole c.clean.ensures.only
 
--- ---- of a store that lasts
+-- ---- behind other calls of the same store
 
-pub returns-in_err-state-clause-lasting : goal.returns-in_err-state-clause-lasting
-returns-in_err-state-clause-lasting g c f ids m undamaged r = c.in_err-state.ensures.lasting f
+pub returns-in_err-state-clause-loses_on : goal.returns-in_err-state-clause-loses_on
+returns-in_err-state-clause-loses_on g c f ids m undamaged r = c.in_err-state.ensures.loses_on f
 
-pub returns-in-Ok-clause-lasting : goal.returns-in-Ok-clause-lasting
-returns-in-Ok-clause-lasting g c =
+pub returns-in-Ok-clause-loses_on : goal.returns-in-Ok-clause-loses_on
+returns-in-Ok-clause-loses_on g c =
     let facts = g.S.Store.facts in
     let mid = c.open_locked.new.source in
+    let new = c.clean.new.source in
+    let state = c.in_ok-state.state in
     let o = c.in_ok-state.ensures in
-    lasting_opened (order_of g.K.KeyOrder.name g.K.KeyOrder.cmp) (facts c.args.source.now.tables.store) (seen_of facts mid) (seen_of facts c.clean.new.source) (db_of mid.memory c.in_ok-state.state) c.args.mode
-    (c.clean.ensures.step no_ids).faithful o.step o.lasting o.renewed o.since o.whole c.clean.ensures.only
+    opened_on (order_of g.K.KeyOrder.name g.K.KeyOrder.cmp) (facts c.args.source.now.tables.store) (seen_of facts mid) (seen_of facts new) (db_of mid.memory state) (db_of new.memory state) c.args.mode
+    (c.clean.ensures.step no_ids).faithful o.step o.loses_on c.synced_law.ensures o.renewed o.whole c.clean.ensures.only c.clean.ensures.removes
 
-pub returns-else-lacks_memory-clause-lasting : goal.returns-else-lacks_memory-clause-lasting
-returns-else-lacks_memory-clause-lasting g c =
+pub returns-else-lacks_memory-clause-loses_on : goal.returns-else-lacks_memory-clause-loses_on
+returns-else-lacks_memory-clause-loses_on g c =
     let facts = g.S.Store.facts in
     let mid = c.open_locked.new.source in
+    let new = c.clean.new.source in
+    let state = c.in_ok-state.state in
     let o = c.in_ok-state.ensures in
-    lasting_opened (order_of g.K.KeyOrder.name g.K.KeyOrder.cmp) (facts c.args.source.now.tables.store) (seen_of facts mid) (seen_of facts c.clean.new.source) (db_of mid.memory c.in_ok-state.state) c.args.mode
-    (c.clean.ensures.step no_ids).faithful o.step o.lasting o.renewed o.since o.whole c.clean.ensures.only
+    opened_on (order_of g.K.KeyOrder.name g.K.KeyOrder.cmp) (facts c.args.source.now.tables.store) (seen_of facts mid) (seen_of facts new) (db_of mid.memory state) (db_of new.memory state) c.args.mode
+    (c.clean.ensures.step no_ids).faithful o.step o.loses_on c.synced_law.ensures o.renewed o.whole c.clean.ensures.only c.clean.ensures.removes
 
-pub returns-then-lacks_memory-clause-lasting : goal.returns-then-lacks_memory-clause-lasting
-returns-then-lacks_memory-clause-lasting g c =
+pub returns-then-lacks_memory-clause-loses_on : goal.returns-then-lacks_memory-clause-loses_on
+returns-then-lacks_memory-clause-loses_on g c =
     let facts = g.S.Store.facts in
     let mid = c.open_locked.new.source in
+    let new = c.clean.new.source in
+    let state = c.in_ok-state.state in
     let o = c.in_ok-state.ensures in
-    lasting_opened (order_of g.K.KeyOrder.name g.K.KeyOrder.cmp) (facts c.args.source.now.tables.store) (seen_of facts mid) (seen_of facts c.clean.new.source) (db_of mid.memory c.in_ok-state.state) c.args.mode
-    (c.clean.ensures.step no_ids).faithful o.step o.lasting o.renewed o.since o.whole c.clean.ensures.only
+    opened_on (order_of g.K.KeyOrder.name g.K.KeyOrder.cmp) (facts c.args.source.now.tables.store) (seen_of facts mid) (seen_of facts new) (db_of mid.memory state) (db_of new.memory state) c.args.mode
+    (c.clean.ensures.step no_ids).faithful o.step o.loses_on c.synced_law.ensures o.renewed o.whole c.clean.ensures.only c.clean.ensures.removes

@@ -27,8 +27,10 @@ use Rattle.engine.proofs.StopSteps.{continued_keeps}
 use Rattle.store.proofs.Stopping.{leaves_same}
 use Rattle.engine.specs.internal.Directory.{MeansAccepted}
 use Rattle.store.specs.Stops.{LeavesOnly}
-use Rattle.engine.proofs.LosingClosed.{lasting_here, renews_lasting}
-use Rattle.engine.specs.internal.Reopening.{LosesLasting}
+use Rattle.engine.proofs.ReopeningRenewals.{renews_on}
+use Rattle.engine.proofs.ReopeningSteps.{on_here}
+use Rattle.engine.specs.Reopening.{LosesOn}
+use Rattle.store.specs.Losses.{SyncsBeginnings}
 use Rattle.opening.specs.internal.Renewing.{RenewsWhole}
 use Rattle.engine.proofs.open.open_locked.Goals as goal
 
@@ -157,27 +159,27 @@ returns-in_err-begun-clause-durable g c =
     subst (λ (r : Result (DbState _ _) DbError). LeavesDurable (g.S.Store.facts c.args.source.now.tables.store) new r) (sym is)
     (record { ok = λ f. tt; err = λ f. subst (λ s. LeavesFile (g.S.Store.facts s) new (name_of Current) ⊎ IsDurable new) c.in_ok-begin.ensures.store (c.in_err-begun.ensures.durable.err f) })
 
--- ---- of a store that lasts
+-- ---- behind other calls of the same store
 
-pub returns-in_err-begin-clause-lasting : goal.returns-in_err-begin-clause-lasting
-returns-in_err-begin-clause-lasting g c f =
+pub returns-in_err-begin-clause-loses_on : goal.returns-in_err-begin-clause-loses_on
+returns-in_err-begin-clause-loses_on g c f =
     let order = order_of g.K.KeyOrder.name g.K.KeyOrder.cmp in
     let old = g.S.Store.facts c.args.source.now.tables.store in
-    subst (λ s. LosesLasting order old (g.S.Store.facts s)) (sym c.in_err-begin.ensures.store) (lasting_here order old)
+    subst (λ s. LosesOn order old (g.S.Store.facts s)) (sym c.in_err-begin.ensures.store) (on_here order old)
 
-pub returns-in_err-begun-clause-lasting : goal.returns-in_err-begun-clause-lasting
-returns-in_err-begun-clause-lasting g c f =
+pub returns-in_err-begun-clause-loses_on : goal.returns-in_err-begun-clause-loses_on
+returns-in_err-begun-clause-loses_on g c f =
     let order = order_of g.K.KeyOrder.name g.K.KeyOrder.cmp in
     let mid = g.S.Store.facts c.begin.new.self.store in
     let new = g.S.Store.facts c.begin-2.new.store in
-    subst (λ s. LosesLasting order (g.S.Store.facts s) new) c.in_ok-begin.ensures.store (renews_lasting order mid new (c.in_err-begun.ensures.renews f))
+    subst (λ s. SyncsBeginnings (g.S.Store.facts s) → LosesOn order (g.S.Store.facts s) new) c.in_ok-begin.ensures.store (λ sound. renews_on order mid new sound (c.in_err-begun.ensures.renews f)) c.synced_law.ensures
 
-pub returns-clause-lasting : goal.returns-clause-lasting
-returns-clause-lasting g c f =
+pub returns-clause-loses_on : goal.returns-clause-loses_on
+returns-clause-loses_on g c f =
     let order = order_of g.K.KeyOrder.name g.K.KeyOrder.cmp in
     let mid = g.S.Store.facts c.begin.new.self.store in
     let new = g.S.Store.facts c.begin-2.new.store in
-    subst (λ s. LosesLasting order (g.S.Store.facts s) new) c.in_ok-begin.ensures.store (renews_lasting order mid new (c.in_ok-begun.ensures.renews f))
+    subst (λ s. SyncsBeginnings (g.S.Store.facts s) → LosesOn order (g.S.Store.facts s) new) c.in_ok-begin.ensures.store (λ sound. renews_on order mid new sound (c.in_ok-begun.ensures.renews f)) c.synced_law.ensures
 
 pub returns-clause-renewed : goal.returns-clause-renewed
 returns-clause-renewed g c = λ f.

@@ -17,7 +17,7 @@ use Rattle.engine.proofs.Locking.{unlocked_open, locked_open, given_back}
 use Rattle.engine.proofs.StopSteps.{keeps_behind, lock_keeps}
 use Rattle.store.proofs.Stopping.{leaves_both}
 use Rattle.engine.specs.internal.Directory.{MeansAccepted}
-use Rattle.engine.proofs.LosingClosed.{lasting_behind, lasting_locked, lasting_unlocked}
+use Rattle.engine.proofs.ReopeningSteps.{on_lock, on_locked, on_unlocked}
 use Rattle.engine.proofs.open.open_store.Goals as goal
 
 pub returns-in_err-take_lock-clause-step : goal.returns-in_err-take_lock-clause-step
@@ -145,14 +145,14 @@ returns-in-Err-clause-loses g c f ids m undamaged s stays =
     new (g.S.Store.facts c.unlock.new.self) (λ files. MeansAccepted order files m) (c.in-Err.ensures.stops k ids m undamaged rests) (c.in-Err.ensures.loses k ids m undamaged rests)
     (c.unlock.ensures.calls f) (c.unlock.ensures.same f) (c.unlock.ensures.synced f)
 
--- ---- of a store that lasts
+-- ---- behind other calls of the same store
 
-pub returns-in_err-take_lock-clause-lasting : goal.returns-in_err-take_lock-clause-lasting
-returns-in_err-take_lock-clause-lasting g c f ids m undamaged s =
-    lasting_locked (order_of g.K.KeyOrder.name g.K.KeyOrder.cmp) (g.S.Store.facts c.args.source.now.tables.store) (g.S.Store.facts c.take_lock.new.store) (c.in_err-take_lock.ensures.lock.synced f) (c.in_err-take_lock.ensures.noted f)
+pub returns-in_err-take_lock-clause-loses_on : goal.returns-in_err-take_lock-clause-loses_on
+returns-in_err-take_lock-clause-loses_on g c ids f there m undamaged s =
+    on_locked (order_of g.K.KeyOrder.name g.K.KeyOrder.cmp) (g.S.Store.facts c.args.source.now.tables.store) (g.S.Store.facts c.take_lock.new.store) there (c.in_err-take_lock.ensures.lock.synced f) (c.in_err-take_lock.ensures.noted f)
 
-pub returns-in-Ok-clause-lasting : goal.returns-in-Ok-clause-lasting
-returns-in-Ok-clause-lasting g c f ids m undamaged s =
+pub returns-in-Ok-clause-loses_on : goal.returns-in-Ok-clause-loses_on
+returns-in-Ok-clause-loses_on g c ids f there m undamaged s =
     let order = order_of g.K.KeyOrder.name g.K.KeyOrder.cmp in
     let old = g.S.Store.facts c.args.source.now.tables.store in
     let mid = g.S.Store.facts c.take_lock.new.store in
@@ -161,10 +161,10 @@ returns-in-Ok-clause-lasting g c f ids m undamaged s =
     let lock = c.in_ok-take_lock.ensures.lock in
     let rests = locked order old mid m c.free_change_law.ensures lock h s in
     let goes = c.in-Ok.ensures.stops f ids m undamaged rests in
-    lasting_behind order old mid (lock.synced h) (c.in_ok-take_lock.ensures.noted h) new goes.more goes.calls (c.in-Ok.ensures.lasting f ids m undamaged rests)
+    on_lock order old mid new goes.more there (lock.synced h) (c.in_ok-take_lock.ensures.noted h) goes.calls (c.in-Ok.ensures.loses_on f ids m undamaged rests)
 
-pub returns-in-Err-clause-lasting : goal.returns-in-Err-clause-lasting
-returns-in-Err-clause-lasting g c f ids m undamaged s =
+pub returns-in-Err-clause-loses_on : goal.returns-in-Err-clause-loses_on
+returns-in-Err-clause-loses_on g c ids f there m undamaged s =
     let order = order_of g.K.KeyOrder.name g.K.KeyOrder.cmp in
     let old = g.S.Store.facts c.args.source.now.tables.store in
     let mid = g.S.Store.facts c.take_lock.new.store in
@@ -174,5 +174,5 @@ returns-in-Err-clause-lasting g c f ids m undamaged s =
     let lock = c.in_ok-take_lock.ensures.lock in
     let rests = locked order old mid m c.free_change_law.ensures lock h s in
     let goes = c.in-Err.ensures.stops k ids m undamaged rests in
-    lasting_unlocked order old mid (lock.synced h) (c.in_ok-take_lock.ensures.noted h) new (g.S.Store.facts c.unlock.new.self) goes.more goes.calls (c.in-Err.ensures.lasting k ids m undamaged rests)
+    on_unlocked order old mid new (g.S.Store.facts c.unlock.new.self) goes.more there (lock.synced h) (c.in_ok-take_lock.ensures.noted h) goes.calls (c.in-Err.ensures.loses_on k ids m undamaged rests)
     (c.unlock.ensures.calls f) (c.unlock.ensures.same f) (c.unlock.ensures.synced f)

@@ -14,3 +14,6 @@ returns-clause-stops g c f m undamaged s =
 
 pub returns-clause-loses : goal.returns-clause-loses
 returns-clause-loses g c f m undamaged s whole = c.compact_all.ensures.stops.loses f c.args.self.now.ids m (record { stands = s; undamaged = undamaged }) whole
+
+pub returns-clause-found : goal.returns-clause-found
+returns-clause-found g c f m undamaged s whole = c.compact_all.ensures.stops.found f c.args.self.now.ids m (record { stands = s; undamaged = undamaged }) whole

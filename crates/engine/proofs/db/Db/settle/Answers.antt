@@ -52,3 +52,14 @@ returns-in-Err-clause-loses g c = db_loses_then (order_of g.K.KeyOrder.name g.K.
 
 pub returns-clause-loses : goal.returns-clause-loses
 returns-clause-loses g c = c.loop.invariant.loses
+
+-- ---- what stays of the files that the open found
+
+pub returns-in-Ok-Idle-clause-found : goal.returns-in-Ok-Idle-clause-found
+returns-in-Ok-Idle-clause-found g c = db_found_then (order_of g.K.KeyOrder.name g.K.KeyOrder.cmp) g.S.Store.facts c.args.self.now c.loop.self c.work.new.self c.work.ensures.step.faithful c.loop.invariant.found c.loop.invariant.steps c.work.ensures.found
+
+pub returns-in-Err-clause-found : goal.returns-in-Err-clause-found
+returns-in-Err-clause-found g c = db_found_then (order_of g.K.KeyOrder.name g.K.KeyOrder.cmp) g.S.Store.facts c.args.self.now c.loop.self c.work.new.self c.work.ensures.step.faithful c.loop.invariant.found c.loop.invariant.steps c.work.ensures.found
+
+pub returns-clause-found : goal.returns-clause-found
+returns-clause-found g c = c.loop.invariant.found

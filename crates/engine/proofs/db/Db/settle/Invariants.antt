@@ -2,9 +2,9 @@ use Rattle.ikey.specs.Orders.{order_of}
 use Rattle.std.proofs.Common.{◌≡◌}
 use Rattle.engine.specs.Losses.{DbLoses}
 use Rattle.engine.specs.Pace.{OnlyDraws}
+use Rattle.engine.specs.Reopening.{DbKeepsFound}
 use Rattle.engine.specs.StandsDb.{FollowsDb, KeepsOpening, db_ids_of}
 use Rattle.engine.specs.Stops.{DbStops}
-use Rattle.engine.specs.internal.Stopping.{DbKeepsFound}
 use Rattle.engine.proofs.db.Db.settle.Given as goal
 
 abbrev pub invariant-loop : goal.invariant-loop

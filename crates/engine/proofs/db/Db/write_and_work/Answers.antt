@@ -5,7 +5,7 @@ use Rattle.engine.specs.Pace.{WritesAtPace}
 use Rattle.engine.specs.StandsDb.{FollowsDb}
 use Rattle.engine.specs.declared.pace.Pace.{Pace}
 use Rattle.engine.proofs.Flags.{writes_flag}
-use Rattle.engine.proofs.LosingDb.{db_loses_written}
+use Rattle.engine.proofs.LosingDb.{db_found_written, db_loses_written}
 use Rattle.engine.proofs.PaceSteps.{draws_none}
 use Rattle.machine.specs.declared.command.Answer.TheVariants.{Done}
 use Rattle.engine.proofs.RangeLeads.{leads_as, leads_then}
@@ -46,3 +46,13 @@ pub returns-clause-loses : goal.returns-clause-loses
 returns-clause-loses g c =
     db_loses_written (order_of g.K.KeyOrder.name g.K.KeyOrder.cmp) g.S.Store.facts c.args.self.now c.write.new.self c.keep_up.new.self c.keep_up.ensures.step.faithful c.write.ensures.found c.args.batch.now c.args.sync c.in_ok-write.ensures.step
     c.keep_up.ensures.stops c.write.ensures.loses c.keep_up.ensures.loses
+
+pub returns-in_err-write-clause-found : goal.returns-in_err-write-clause-found
+returns-in_err-write-clause-found g c = c.write.ensures.found
+
+pub returns-then-has_kept_up-clause-found : goal.returns-then-has_kept_up-clause-found
+returns-then-has_kept_up-clause-found g c = c.write.ensures.found
+
+pub returns-clause-found : goal.returns-clause-found
+returns-clause-found g c =
+    db_found_written (order_of g.K.KeyOrder.name g.K.KeyOrder.cmp) g.S.Store.facts c.args.self.now c.write.new.self c.keep_up.new.self c.keep_up.ensures.step.faithful c.write.ensures.found c.args.batch.now c.args.sync c.in_ok-write.ensures.step c.keep_up.ensures.found

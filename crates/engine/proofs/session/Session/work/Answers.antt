@@ -17,7 +17,7 @@ use Rattle.engine.proofs.WriteSteps.{lifts}
 use Rattle.machine.specs.declared.command.Answer.TheVariants.{Worked, Refused}
 use Rattle.machine.specs.declared.command.Answer.TheVariants as answer
 use Rattle.engine.proofs.Breaking.{breaks_as, breaks_none, breaks_open, is_done, told_io}
-use Rattle.engine.proofs.LosingDb.{loses_lent, loses_standing}
+use Rattle.engine.proofs.LosingDb.{found_lent, found_standing, loses_lent, loses_standing}
 use Rattle.engine.proofs.StopSteps.{stops_lent, stops_standing}
 use Rattle.engine.proofs.session.Session.work.Goals as goal
 
@@ -152,3 +152,23 @@ pub returns-in-Err-clause-loses : goal.returns-in-Err-clause-loses
 returns-in-Err-clause-loses g c =
     let memory = c.args.self.now.source.memory in
     loses_lent (order_of g.K.KeyOrder.name g.K.KeyOrder.cmp) (seen_of g.S.Store.facts c.args.self.now.source) (seen_of g.S.Store.facts c.work.new.source) c.args.self.now.ids (open_in c.args.self.now) (open_db memory c.in-Some.state) (ap (option_map (open_db memory)) c.in-Some.is) c.work.ensures.stops
+
+-- ---- what stays of the files that the open found
+
+pub returns-in-None-clause-found : goal.returns-in-None-clause-found
+returns-in-None-clause-found g c f m undamaged s = found_standing (open_in c.args.self.now) (g.S.Store.facts c.args.self.now.source.tables.store) (g.S.Store.facts c.args.self.now.source.tables.store) (λ t. refl) (λ t. refl) f
+
+pub returns-in-Ok-Worked-clause-found : goal.returns-in-Ok-Worked-clause-found
+returns-in-Ok-Worked-clause-found g c =
+    let memory = c.args.self.now.source.memory in
+    found_lent (order_of g.K.KeyOrder.name g.K.KeyOrder.cmp) (seen_of g.S.Store.facts c.args.self.now.source) (g.S.Store.facts c.work.new.source.tables.store) c.args.self.now.ids (open_in c.args.self.now) (open_db memory c.in-Some.state) (ap (option_map (open_db memory)) c.in-Some.is) c.work.ensures.stops.found
+
+pub returns-in-Ok-Idle-clause-found : goal.returns-in-Ok-Idle-clause-found
+returns-in-Ok-Idle-clause-found g c =
+    let memory = c.args.self.now.source.memory in
+    found_lent (order_of g.K.KeyOrder.name g.K.KeyOrder.cmp) (seen_of g.S.Store.facts c.args.self.now.source) (g.S.Store.facts c.work.new.source.tables.store) c.args.self.now.ids (open_in c.args.self.now) (open_db memory c.in-Some.state) (ap (option_map (open_db memory)) c.in-Some.is) c.work.ensures.stops.found
+
+pub returns-in-Err-clause-found : goal.returns-in-Err-clause-found
+returns-in-Err-clause-found g c =
+    let memory = c.args.self.now.source.memory in
+    found_lent (order_of g.K.KeyOrder.name g.K.KeyOrder.cmp) (seen_of g.S.Store.facts c.args.self.now.source) (g.S.Store.facts c.work.new.source.tables.store) c.args.self.now.ids (open_in c.args.self.now) (open_db memory c.in-Some.state) (ap (option_map (open_db memory)) c.in-Some.is) c.work.ensures.stops.found
