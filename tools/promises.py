@@ -6,7 +6,7 @@ import operator
 from dataclasses import dataclass
 
 from listed import Wrong
-from machine import Machine, text_of
+from machine import BROKEN, CLOSED, DEVICE, MEMORY, Machine, text_of
 from recorded import Answered, Locked, Moved, Opened, Removed, Wrote
 
 WRITES = ("put", "del", "write")
@@ -63,13 +63,17 @@ def applied(pairs, line):
     return machine.written(verb, words)
 
 
+class InDoubt(Exception):
+    """A batch was refused that the folder may hold: what is to be left isn't known from the answers."""
+
+
 class Story:
     """The batches of a session, and how many of them were accepted at each moment. It begins over a folder that holds these pairs, up
-    to this sequence."""
+    to this sequence. Where commands may be refused, those that were count for nothing."""
 
-    def __init__(self, recording, history, pairs=None, sequence=0):
+    def __init__(self, recording, history, pairs=None, sequence=0, may_refuse=False):
         self.history, self.script = history, recording.script
-        want_accepted(recording)
+        (want_certain if may_refuse else want_accepted)(recording)
         # at each moment, how many lines were answered
         self.answered = [0]
         for call in history.calls:
@@ -78,8 +82,8 @@ class Story:
             raise Wrong(f"the record has {self.answered[-1]} answers to {len(self.script)} lines")
         self.pairs, self.sequence = pairs or {}, sequence
         self.batches = []
-        for number, line in enumerate(self.script):
-            if line.split(" ")[0] in WRITES:
+        for number, (line, answer) in enumerate(zip(self.script, recording.answers)):
+            if line.split(" ")[0] in WRITES and answer == "ok":
                 self.batches.append(self.batch(number, line))
 
     def batch(self, number, line):
@@ -116,6 +120,15 @@ def want_accepted(recording):
     """Each command was done."""
     for line, answer in zip(recording.script, recording.answers):
         if answer not in (("worked", "idle") if line.startswith("work ") else ("ok",)):
+            raise Wrong(f"{line[:200]!r} was answered {answer[:200]!r}")
+
+
+def want_certain(recording):
+    """Each write was done, or refused before it began."""
+    for line, answer in zip(recording.script, recording.answers):
+        if line.split(" ")[0] in WRITES and answer in (MEMORY, DEVICE):
+            raise InDoubt(line)
+        if line.split(" ")[0] in WRITES and answer not in ("ok", BROKEN, CLOSED):
             raise Wrong(f"{line[:200]!r} was answered {answer[:200]!r}")
 
 

@@ -12,6 +12,11 @@ from running import said_beside
 
 SECONDS = 60
 
+
+class Ended(Wrong):
+    """A program that was recorded ended before its script did, since it was refused."""
+
+
 # what stands in front of an entry's texts: its kind, flags, the inode, the place, and the lengths of the two
 HEAD = struct.Struct("=IIQQII")
 Entry = collections.namedtuple("Entry", "flags file place first second")
@@ -97,12 +102,15 @@ def files_in(folder):
 
 
 def answers_to(process, script):
-    """Gives a program its lines one by one, and answers what it says to each."""
+    """Gives a program its lines one by one, and answers what it says to each, until it ends."""
     answers = []
-    for line in script:
-        process.stdin.write(f"{line}\n".encode())
-        process.stdin.flush()
-        answers.append(process.stdout.readline().decode().rstrip("\n"))
+    try:
+        for line in script:
+            process.stdin.write(f"{line}\n".encode())
+            process.stdin.flush()
+            answers.append(process.stdout.readline().decode().rstrip("\n"))
+    except BrokenPipeError:
+        pass
     return answers
 
 
@@ -127,6 +135,8 @@ class Recording:
                 said = process.communicate()
             finally:
                 killer.cancel()
+        if process.returncode == 1 and not said[0]:
+            raise Ended(f"it ended with status 1, and said {said[1]}")
         if process.returncode or said[0] or said_beside("\n".join(answers).encode(), said[1]):
             raise Wrong(f"it ended with status {process.returncode}, and said {said}")
         self.script += script

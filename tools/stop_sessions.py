@@ -33,6 +33,14 @@ SESSIONS = [
 PLANTED = [*SESSIONS[2][2], "open; close"]
 
 
+# in each of these one call of the system is refused: its options and its lines; where an open is refused another one follows
+REFUSED = {
+    "opens": ("", "open any; open any; write sync put 61 01; put 62 02; close; open any; open any; put 63 03; close; open any; open any; write sync del 61; close"),
+    "work": ("--write-buffer 1 --level0-files 2", "open any; open any; write sync put 61 01; work 9; work 9; close; open any; open any; put 62 02; work 9; work 9; work 9; "
+        "close; open any; open any; write sync put 63 03; work 9; work 9; put 64 04; close; open any; open any; close"),
+}  # fmt: skip
+
+
 @dataclass(frozen=True)
 class Case:
     """A session for one thing that a loss of power could do, from one of its lines on; and whether names come to the device in any order."""
