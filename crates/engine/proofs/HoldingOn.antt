@@ -144,7 +144,7 @@ holds_beside order m file is beside lost h = holds_agreeing order m before lost 
 -- ---- an empty log
 
 -- where no file is another
-agree_same : (before after : Files) (d : Directory) → ((q : List ℕ) → get after q ≡ get before q) → Agree before after d
+pub agree_same : (before after : Files) (d : Directory) → ((q : List ℕ) → get after q ≡ get before q) → Agree before after d
 agree_same before after d same = record {
   current = same (name_of Current);
   manifest = same (name_of (Manifest d.manifest));

@@ -22,7 +22,10 @@ use Rattle.opening.proofs.LosingWrites.{loses_writing, numbered_in}
 use Rattle.opening.proofs.Reopening.{files_apart}
 use Rattle.opening.proofs.Spared.{left_by_loss}
 use Rattle.opening.proofs.Uncut.{other_left, others_left, uncut_on}
+use Rattle.opening.specs.Durable.{LeavesFile}
 use Rattle.opening.specs.Losses.{AreCut, BeginsSpared, HaveNamesStayed, IsButLock, IsKept, IsLogIn, IsReadIn, IsUncut, LeavesUncut}
+use Rattle.opening.specs.declared.directory.CurrentLog.{CurrentLog}
+use Rattle.opening.specs.declared.directory.DirectoryState.{DirectoryState}
 use Rattle.opening.specs.internal.Begun.{BeginsSynced}
 use Rattle.opening.specs.internal.Cuts.{AreLeft, IsLeftCut}
 use Rattle.opening.specs.internal.Durable.{IsBeside}
@@ -38,10 +41,10 @@ use Rattle.recover.specs.Logs.{Batch, HasLog, HasLogs, InLogs, LogContent, Numbe
 use Rattle.recover.specs.Tables.{InTables, TableContent, tabled}
 use Rattle.store.proofs.Carrying.{carries_writes}
 use Rattle.store.proofs.LosingOn.{loses_both, loses_read, loses_so}
-use Rattle.store.proofs.Staying.{stays_on}
+use Rattle.store.proofs.Staying.{begins_behind, begins_same, stays_behind, stays_on, stays_same}
 use Rattle.store.proofs.Stopping.{others_noted}
 use Rattle.store.specs.Calls.{Adds, Idles}
-use Rattle.store.specs.Files.{Call, Facts, Files, LockFile, MayLock, Synced, lock_name}
+use Rattle.store.specs.Files.{Call, Disk, Facts, Files, LockFile, MayLock, Synced, lock_name}
 use Rattle.store.specs.Losses.{LosesOnly, StaysNamed}
 use Rattle.store.specs.Stops.{KeepsBut, LeavesOnly, WritesOnly}
 use Rattle.table_access.specs.Tables.{Seen}
@@ -52,11 +55,13 @@ use Rattle.engine.proofs.Lasting.{held}
 use Rattle.engine.proofs.Losing.{spared}
 use Rattle.engine.proofs.LosingCalls.{reads_none}
 use Rattle.engine.proofs.LosingPieces.{serving_whole}
+use Rattle.engine.proofs.LostRemovals.{synced_or_idle}
 use Rattle.engine.proofs.OpenLock.{OnlyLock, accepted_beside}
 use Rattle.engine.proofs.OpenMachine.{accepted_again, means_whole}
 use Rattle.engine.proofs.RecentBatches.{batches-append, logged_in_batches}
 use Rattle.engine.proofs.RecentCuts.{IsLeft, LeftFront, front_cuts, left_front}
 use Rattle.engine.proofs.RecentLosses.{in_first, in_front_of_last}
+use Rattle.engine.proofs.RecentWrites.{left_kept}
 use Rattle.engine.proofs.StayedNames.{SparesRead, spares_dead}
 use Rattle.engine.proofs.StopSteps.{opened_back}
 use Rattle.engine.specs.Follows.{Leads}
@@ -66,6 +71,7 @@ use Rattle.engine.specs.OpenDb.{OpenDb}
 use Rattle.engine.specs.Working.{IsLiveIn}
 use Rattle.engine.specs.declared.ids.Ids.{Ids}
 use Rattle.engine.specs.internal.Directory.{MeansAccepted, MeansCurrent, MeansWith}
+use Rattle.engine.specs.internal.Logs.{LeavesOrSyncs, SyncsEach}
 use Rattle.engine.specs.internal.Recent.{batches_in}
 use Rattle.engine.specs.internal.Resting.{LosesMeaning, Rests}
 use Rattle.engine.specs.internal.Standing.{IsServing, StandsOpen, entries_of}
@@ -262,8 +268,18 @@ module _ {K : Type 0} {g : _} (order : Order) (source : Seen) (db : OpenDb K g) 
       let cut = loses_writing free_change left_by_loss cut_directory order source.facts new d mine writes (reads_none order source db m serving same new mine writes spares) good (spared order source db m serving) lost since (left_whole lost still) in
       current_means order lost m serving.certain (left_means lost still cut)
 
-  -- the open has written none of that but what is synced
-  module _ (old : Facts) (begins : BeginsSynced old source.facts db.log db.directory) (lost : Files) (uncut : LeavesUncut old lost) where
+  -- the open has written none of that but what is synced, and behind that more was synced
+  module _ (old mid : Facts) (mid_log : CurrentLog) (begins : BeginsSynced old mid mid_log db.directory) (number : db.log.number ≡ mid_log.number) (files : source.facts.files ≡ mid.files) (syncs : (q : List ℕ) → LeavesOrSyncs mid source.facts q)
+      (lost : Files) (uncut : LeavesUncut old lost) where
+    abbrev IsWholeAt : List ℕ → Type 0
+    IsWholeAt q = IsKept source.facts q ⊎ IsUncut source.facts.files lost q
+
+    whole_at : (q : List ℕ) → LeavesFile old mid q → IsWholeAt q
+    whole_at q left = elim (uncut_on old mid lost q left (uncut q)) [
+      | inl kept ↦ inl (left_kept mid source.facts q (ap (λ (fs : Files). get fs q) files) (syncs q) kept)
+      | inr whole ↦ inr (subst (λ (fs : Files). IsUncut fs lost q) (sym files) whole)
+    ]
+
     log_beside : (n : ℕ) → IsNumbered n → n < db.directory.manifest.number → IsBeside db.directory.manifest.number (name_of (Log n))
     log_beside n numbered less =
         let names = serving.synced.names in
@@ -278,26 +294,20 @@ module _ {K : Type 0} {g : _} (order : Order) (source : Seen) (db : OpenDb K g) 
           temporary = files_apart (Log n) (Temporary k) numbered names.manifest.0 (λ e. cc);
         }
 
-    log_uncut : (n : ℕ) → IsNumbered n → name_of (Log n) ≢ log → IsKept source.facts (name_of (Log n)) ⊎ IsUncut source.facts.files lost (name_of (Log n))
+    log_uncut : (n : ℕ) → IsNumbered n → name_of (Log n) ≢ log → IsWholeAt (name_of (Log n))
     log_uncut n numbered apart = at (contains_key source.facts.files (name_of (Log n))) refl
       where
-        at : (b : Bool) → contains_key source.facts.files (name_of (Log n)) ≡ b → IsKept source.facts (name_of (Log n)) ⊎ IsUncut source.facts.files lost (name_of (Log n))
+        at : (b : Bool) → contains_key source.facts.files (name_of (Log n)) ≡ b → IsWholeAt (name_of (Log n))
         at true is =
-            let less = begins.begun n numbered (λ e. apart (ap (λ (k : ℕ). name_of (Log k)) e)) is in
-            uncut_on old source.facts lost (name_of (Log n)) (begins.beside (name_of (Log n)) (log_beside n numbered less)) (uncut (name_of (Log n)))
+            let less = begins.begun n numbered (λ e. apart (ap (λ (k : ℕ). name_of (Log k)) (e ∙ sym number))) (ap (λ (fs : Files). contains_key fs (name_of (Log n))) (sym files) ∙ is) in
+            whole_at (name_of (Log n)) (begins.beside (name_of (Log n)) (log_beside n numbered less))
         at false is = inr (λ bytes held there left front. absurd (let bad : true ≡ false = sym (ap is_some there) ∙ is in cc))
 
-    table_uncut : (content : TableContent) → InTables d.tables content → (IsKept source.facts (name_of (Table content.placed.table.number)) ⊎ IsUncut source.facts.files lost (name_of (Table content.placed.table.number)))
-        × (IsKept source.facts (name_of (OldTable content.placed.table.number)) ⊎ IsUncut source.facts.files lost (name_of (OldTable content.placed.table.number)))
+    table_uncut : (content : TableContent) → InTables d.tables content → IsWholeAt (name_of (Table content.placed.table.number)) × IsWholeAt (name_of (OldTable content.placed.table.number))
     table_uncut content among =
         let n = content.placed.table.number in
-        let left = begins.tables n (table_of order source.facts.files d.tables content good.tables among) in (
-          uncut_on old source.facts lost (name_of (Table n)) left.0 (uncut (name_of (Table n))),
-          uncut_on old source.facts lost (name_of (OldTable n)) left.1 (uncut (name_of (OldTable n))),
-        )
-
-    abbrev IsWholeAt : List ℕ → Type 0
-    IsWholeAt q = IsKept source.facts q ⊎ IsUncut source.facts.files lost q
+        let left = begins.tables n (table_of order source.facts.files d.tables content good.tables among) in
+        (whole_at (name_of (Table n)) left.0, whole_at (name_of (OldTable n)) left.1)
 
     pub opened_uncut : ReadsUncut lost
     opened_uncut q (inl (inl is)) apart = inl (subst (IsKept source.facts) (sym is) serving.synced.synced.current)
@@ -308,24 +318,40 @@ module _ {K : Type 0} {g : _} (order : Order) (source : Seen) (db : OpenDb K g) 
 
 -- ---- the whole of it
 
--- the removal of files behind it
-pub opened_loses : {K : Type 0} {g : _} (order : Order) (old : Facts) (mid new : Seen) (db : OpenDb K g) (mode : Mode) → (IsTrue new.facts.faithful → IsTrue mid.facts.faithful)
-    → ((ids : Ids) → Leads old mid.facts (Rests order old ids) (StandsOpen order mid ids db) (λ m n. Opens m mode Done n)) → (IsTrue mid.facts.faithful → (m : Machine) → MeansAccepted order old.files m → HaveNamesStayed old → LosesMeaning order old mid.facts m)
-    → (IsTrue mid.facts.faithful → BeginsSynced old mid.facts db.log db.directory) → (IsTrue mid.facts.faithful → BeginsSpared mid.facts (string_bytes db.log.name)) → db.log.end ≡ 0 → db.broken ≡ false
-    → (IsTrue new.facts.faithful → WritesOnly mid.facts new.facts (IsDead (IsLiveIn mid.facts.files db)))
+-- behind syncs of some files the calls since the last one spare as much
+pub begun_kept : (done : List (List ℕ)) (mid kept : Facts) (log : List ℕ) → BeginsSpared mid log → SyncsEach done mid kept → BeginsSpared kept log
+begun_kept done mid kept log begun syncs = elim (synced_or_idle done mid kept syncs) [
+  | inl idle ↦
+      let there : (q : List ℕ) → contains_key kept.files q ≡ contains_key mid.files q = λ q. ap (λ (disk : Disk). contains_key disk.files q) idle.1 in
+      record {
+        others = λ q apart. stays_same mid kept q idle.0 (there q) (begun.others q apart);
+        begun = begins_same mid kept log idle.0 (there log) (ap (λ (disk : Disk). disk.synced log) idle.1) begun.begun;
+      }
+  | inr ends ↦ record { others = λ q apart. stays_behind kept q ends; begun = begins_behind kept log ends }
+]
+
+-- the removal of files behind it, with syncs in front of that
+pub opened_loses : {K : Type 0} {g : _} (order : Order) (old : Facts) (mid kept new : Seen) (db cleared : OpenDb K g) (mode : Mode) → (IsTrue new.facts.faithful → IsTrue kept.facts.faithful) → (IsTrue kept.facts.faithful → IsTrue mid.facts.faithful)
+    → ((ids : Ids) → Leads old kept.facts (Rests order old ids) (StandsOpen order kept ids cleared) (λ m n. Opens m mode Done n)) → (IsTrue kept.facts.faithful → (m : Machine) → MeansAccepted order old.files m → HaveNamesStayed old → LosesMeaning order old kept.facts m)
+    → (IsTrue mid.facts.faithful → BeginsSynced old mid.facts db.log db.directory) → (IsTrue kept.facts.faithful → BeginsSpared kept.facts (string_bytes cleared.log.name)) → (IsTrue kept.facts.faithful → kept.facts.files ≡ mid.facts.files) → (IsTrue kept.facts.faithful → (q : List ℕ) → LeavesOrSyncs mid.facts kept.facts q)
+    → cleared.log.number ≡ db.log.number → cleared.directory ≡ db.directory → cleared.log.end ≡ 0 → cleared.broken ≡ false
+    → (IsTrue new.facts.faithful → WritesOnly kept.facts new.facts (IsDead (IsLiveIn kept.facts.files cleared)))
     → IsTrue new.facts.faithful → (ids : Ids) (m : Machine) → m.damaged ≡ false → Rests order old ids m → HaveNamesStayed old → LosesMeaning order old new.facts m
-opened_loses order old mid new db mode back step first begins begun empty whole only f ids m undamaged r stays =
-    let one = (step ids).moved (back f) m r in
+opened_loses order old mid kept new db cleared mode back further step first begins begun files syncs number directory empty whole only f ids m undamaged r stays =
+    let still = back f in
+    let one = (step ids).moved still m r in
     let n = one.0 in
-    let serving = serving_whole order mid ids db n (record { stands = one.2; undamaged = opens_flag m n mode Done one.1 ∙ undamaged }) whole in
+    let serving = serving_whole order kept ids cleared n (record { stands = one.2; undamaged = opens_flag m n mode Done one.1 ∙ undamaged }) whole in
     let writes = only f in
-    let spares = spares_dead mid.facts.files db.log db.directory db.tables (λ number. IsTableUsed db.tables db.job db.iterators number) serving.synced.names
-    (λ p there. table_used db.tables db.job db.iterators p.table.number (p, there, refl)) in
-    let mine : List ℕ → Type 0 = IsDead (IsLiveIn mid.facts.files db) in
-    let left = opened_left order mid db n serving refl empty (begun (back f)) new.facts mine writes spares in
+    let spares = spares_dead kept.facts.files cleared.log cleared.directory cleared.tables (λ number. IsTableUsed cleared.tables cleared.job cleared.iterators number) serving.synced.names
+    (λ p there. table_used cleared.tables cleared.job cleared.iterators p.table.number (p, there, refl)) in
+    let mine : List ℕ → Type 0 = IsDead (IsLiveIn kept.facts.files cleared) in
+    let left = opened_left order kept cleared n serving refl empty (begun still) new.facts mine writes spares in
+    let began : BeginsSynced old mid.facts db.log cleared.directory = subst (λ (state : DirectoryState). BeginsSynced old mid.facts db.log state) (sym directory) (begins (further still)) in
     let P : Files → Type 0 = λ lost. LeavesUncut old lost → MeansAccepted order lost m in
-    loses_both old mid.facts new.facts writes.leaves.more P writes.leaves.calls (first (back f) m (means_whole order old.files m undamaged r.rest) stays)
-    (λ lost since uncut. opened_back order lost m n mode r.opened one.1 (left lost since (opened_uncut order mid db n serving refl empty (begun (back f)) new.facts mine writes spares old (begins (back f)) lost uncut)))
+    loses_both old kept.facts new.facts writes.leaves.more P writes.leaves.calls (first still m (means_whole order old.files m undamaged r.rest) stays)
+    (λ lost since uncut. opened_back order lost m n mode r.opened one.1
+    (left lost since (opened_uncut order kept cleared n serving refl empty (begun still) new.facts mine writes spares old mid.facts db.log began number (files still) (syncs still) lost uncut)))
 
 -- behind the lock
 module _ (order : Order) (old mid : Facts) (m : Machine) (may : MayLock old.files mid.files) (synced : mid.synced ≡ old.synced) (noted : Idles old mid ⊎ Adds old mid LockFile) (stays : (name : List ℕ) → StaysNamed old name)

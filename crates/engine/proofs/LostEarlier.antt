@@ -7,7 +7,7 @@ use Rattle.store.specs.Calls.{Adds}
 use Rattle.store.specs.Files.{Call, Creation, Disk, Facts, Files, disk_of}
 use Rattle.store.specs.Losses.{BeginsWith, CarriesBut, HasStayed, IsCarriedBy, IsLost, IsLostSince, Lost, LosesOnly, SyncsBeginning, behind_sync, held_last, is_sync, name_behind, same_name as is_same}
 use Rattle.store.specs.Past.{with_file}
-use Rattle.store.specs.Stops.{WritesOnly, moment}
+use Rattle.store.specs.Stops.{moment}
 use Rattle.store.proofs.Carrying.{unnamed_stays}
 use Rattle.store.proofs.LosingOn.{KeepsAt, facts_at, keeps_at, loses_at, loses_both, loses_noted, loses_same, lost_here}
 use Rattle.store.proofs.Stopping.{others_same}
@@ -18,7 +18,7 @@ use Rattle.edits.specs.declared.names.FileName.TheVariants.{Current}
 use Rattle.recover.proofs.NamedFiles.{get_other, get_same}
 use Rattle.opening.specs.Losses.{IsKept}
 use Rattle.opening.specs.internal.Renewing.{OnlyIt, StartsNew}
-use Rattle.opening.proofs.Losing.{both_begin, none_of, some_of}
+use Rattle.opening.proofs.Losing.{some_of}
 use Rattle.opening.proofs.LosingEdits.{itself, same_or_not}
 use Rattle.opening.proofs.LosingNames.{gone_other}
 use Rattle.opening.proofs.Spared.{IsBegun, ReadsLeft, now_left, reads_left}
@@ -30,7 +30,7 @@ use Rattle.engine.proofs.LosingBegun.{lost_now}
 same_begins : (a b : List ℕ) → a ≡ b → BeginsWith a b
 same_begins a b is = ([], is ∙ sym (append-nil b))
 
-begins_both : (a b c : List ℕ) → BeginsWith a b → BeginsWith b c → BeginsWith a c
+pub begins_both : (a b c : List ℕ) → BeginsWith a b → BeginsWith b c → BeginsWith a c
 begins_both a b c h k = (k.0 ++ h.0, h.1 ∙ ap (λ (bytes : List ℕ). bytes ++ h.0) k.1 ∙ append_assoc c k.0 h.0)
 
 -- so it is where the file is synced whole
@@ -55,10 +55,10 @@ sound_left facts lost q h there = sound_begun facts lost q (now_left facts lost 
 
 -- ---- one file in place of another
 
-with_file_same : (files : Files) (name : List ℕ) (o : Option (List ℕ)) → get (with_file files name o) name ≡ o
+pub with_file_same : (files : Files) (name : List ℕ) (o : Option (List ℕ)) → get (with_file files name o) name ≡ o
 with_file_same files name o = get-with_file files name o name ∙ ap (λ (b : Bool). cond b o (get files name)) (itself name)
 
-with_file_other : (files : Files) (name : List ℕ) (o : Option (List ℕ)) (q : List ℕ) → q ≢ name → get (with_file files name o) q ≡ get files q
+pub with_file_other : (files : Files) (name : List ℕ) (o : Option (List ℕ)) (q : List ℕ) → q ≢ name → get (with_file files name o) q ≡ get files q
 with_file_other files name None q apart = gone_other files name q apart
 with_file_other files name (Some bytes) q apart = get_other files name bytes q apart
 
@@ -68,7 +68,7 @@ gone_same files name = with_file_same files name None
 -- ---- one name
 
 -- the same is left of other files, where they have the same there
-left_like : (facts : Facts) (lost files : Files) (q : List ℕ) → get files q ≡ get lost q → ReadsLeft facts lost q → ReadsLeft facts files q
+pub left_like : (facts : Facts) (lost files : Files) (q : List ℕ) → get files q ≡ get lost q → ReadsLeft facts lost q → ReadsLeft facts files q
 left_like facts lost files q same left = record {
   name = ap is_some same ∙ left.name;
   begun = record {
@@ -78,7 +78,7 @@ left_like facts lost files q same left = record {
 }
 
 -- and of other facts
-left_on : (old new : Facts) (lost : Files) (q : List ℕ) → get new.files q ≡ get old.files q → new.synced q ≡ old.synced q → ReadsLeft new lost q → ReadsLeft old lost q
+pub left_on : (old new : Facts) (lost : Files) (q : List ℕ) → get new.files q ≡ get old.files q → new.synced q ≡ old.synced q → ReadsLeft new lost q → ReadsLeft old lost q
 left_on old new lost q files synced left = record {
   name = left.name ∙ ap is_some files;
   begun = record {
@@ -98,7 +98,7 @@ left_gone facts files q gone lacks = record {
 }
 
 -- it is whole
-left_whole : (facts : Facts) (files : Files) (q : List ℕ) → get files q ≡ get facts.files q → SyncsBeginning facts q → ReadsLeft facts files q
+pub left_whole : (facts : Facts) (files : Files) (q : List ℕ) → get files q ≡ get facts.files q → SyncsBeginning facts q → ReadsLeft facts files q
 left_whole facts files q same sound = record {
   name = ap is_some same;
   begun = record {
@@ -110,7 +110,7 @@ left_whole facts files q same sound = record {
 -- ---- each name
 
 -- the names of now are among those that a loss may leave
-since_last : (calls : List Call) (now : Disk) (lost : Files) → IsLost now.files [] now lost → IsLostSince calls now lost
+pub since_last : (calls : List Call) (now : Disk) (lost : Files) → IsLost now.files [] now lost → IsLostSince calls now lost
 since_last [] now lost h = h
 since_last (call ∷ calls) now lost h = inr (since_last calls now lost h)
 
@@ -171,7 +171,7 @@ either_sync (call ∷ more) = at (is_sync call.change) refl (either_sync more)
 
 -- ---- what the file of each name held last
 
-abbrev Held : Type 0
+abbrev pub Held : Type 0
 Held = Option (List ℕ) × Option (List ℕ)
 
 same_behind : (f g : List ℕ → Held) (o : Option (List ℕ)) (found : Held) → ((q : List ℕ) → f q ≡ g q) → option_map_or f o found ≡ option_map_or g o found
@@ -209,14 +209,14 @@ since_front (call ∷ front) after now then lost rest same behind (inr h) = elim
 
 -- The call that makes it, and some that carry the names of the others.
 module _ (a : Facts) (name : List ℕ) where
-  abbrev making : Call
+  abbrev pub making : Call
   making = record { found = disk_of a; change = Creation name }
 
   goes_behind : (more : List Call) (now : Disk) (q : List ℕ) (o : Option (List ℕ)) → name_behind (Creation name) q ≡ o → held_last (making ∷ more) now q ≡ option_map_or (held_last more now) o (get a.files q, a.synced q)
   goes_behind more now q o is = ap (λ (p : Option (List ℕ)). option_map_or (held_last more now) p (get a.files q, a.synced q)) is
 
   -- files of other names go on behind it
-  made_other : (more : List Call) (now : Disk) (q : List ℕ) → q ≢ name → IsCarriedBy more q → held_last (making ∷ more) now q ≡ (get now.files q, now.synced q)
+  pub made_other : (more : List Call) (now : Disk) (q : List ℕ) → q ≢ name → IsCarriedBy more q → held_last (making ∷ more) now q ≡ (get now.files q, now.synced q)
   made_other more now q apart carried = goes_behind more now q (Some q) (unnamed_stays (Creation name) q apart) ∙ held_carried more now q carried
 
   -- the one of this name ends
@@ -232,36 +232,33 @@ module _ (a : Facts) (name : List ℕ) where
   ]
 
   -- the others are as they were
-  made_files : (made : Facts) → Adds a made (Creation name) → (q : List ℕ) → q ≢ name → get made.files q ≡ get a.files q
+  pub made_files : (made : Facts) → Adds a made (Creation name) → (q : List ℕ) → q ≢ name → get made.files q ≡ get a.files q
   made_files made adds q apart = ap (λ (files : Files). get files q) adds.1 ∙ get_other a.files name [] q apart
 
 -- behind it come calls that carry the names of the files that aren't mine
-abbrev Each : Files → (List ℕ → Type 0) → List Call → Type 0
+abbrev pub Each : Files → (List ℕ → Type 0) → List Call → Type 0
 Each files mine calls = AllByRecursion (λ (call : Call). (q : List ℕ) → (mine q → ⊥) → (name_behind call.change q ≡ Some q) × (contains_key call.found.files q ≡ contains_key files q)) calls
 
-carried_each : (files : Files) (mine : List ℕ → Type 0) (calls : List Call) (q : List ℕ) → (mine q → ⊥) → Each files mine calls → IsCarriedBy calls q
+pub carried_each : (files : Files) (mine : List ℕ → Type 0) (calls : List Call) (q : List ℕ) → (mine q → ⊥) → Each files mine calls → IsCarriedBy calls q
 carried_each files mine [] q apart h = tt
 carried_each files mine (call ∷ calls) q apart h = ((h.0 q apart).0, carried_each files mine calls q apart h.1)
 
 module _ (a made now : Facts) (name : List ℕ) (mine : List ℕ → Type 0) (adds : Adds a made (Creation name)) (c : CarriesBut made now mine) where
-  abbrev before : List Call
-  before = behind_sync [] a.calls
-
-  calls_behind : behind_sync [] now.calls ≡ behind_sync (before ++ making a name ∷ []) c.more
+  calls_behind : behind_sync [] now.calls ≡ behind_sync (behind_sync [] a.calls ++ making a name ∷ []) c.more
   calls_behind =
       ap (behind_sync []) c.calls ∙ behind_more [] made.calls c.more
       ∙ ap (λ (calls : List Call). behind_sync calls c.more) (ap (behind_sync []) adds.0 ∙ behind_more [] a.calls (making a name ∷ []))
 
   -- Since it no sync came, or one did.
-  since_made : (lost : Files) → IsLostSince (behind_sync [] now.calls) (disk_of now) lost
-      → ((behind_sync [] c.more ≡ c.more) × IsLostSince (before ++ making a name ∷ c.more) (disk_of now) lost) ⊎ IsLostSince (behind_sync [] c.more) (disk_of now) lost
+  pub since_made : (lost : Files) → IsLostSince (behind_sync [] now.calls) (disk_of now) lost
+      → ((behind_sync [] c.more ≡ c.more) × IsLostSince (behind_sync [] a.calls ++ making a name ∷ c.more) (disk_of now) lost) ⊎ IsLostSince (behind_sync [] c.more) (disk_of now) lost
   since_made lost h = elim (either_sync c.more) [
-    | inl all ↦ inl (all [], subst (λ (calls : List Call). IsLostSince calls (disk_of now) lost) (calls_behind ∙ all (before ++ making a name ∷ []) ∙ append_assoc before (making a name ∷ []) c.more) h)
-    | inr none ↦ inr (subst (λ (calls : List Call). IsLostSince calls (disk_of now) lost) (calls_behind ∙ none (before ++ making a name ∷ [])) h)
+    | inl all ↦ inl (all [], subst (λ (calls : List Call). IsLostSince calls (disk_of now) lost) (calls_behind ∙ all (behind_sync [] a.calls ++ making a name ∷ []) ∙ append_assoc (behind_sync [] a.calls) (making a name ∷ []) c.more) h)
+    | inr none ↦ inr (subst (λ (calls : List Call). IsLostSince calls (disk_of now) lost) (calls_behind ∙ none (behind_sync [] a.calls ++ making a name ∷ [])) h)
   ]
 
   -- behind it each of the others is left under its name
-  left_behind : (lost : Files) → IsLostSince (behind_sync [] c.more) (disk_of now) lost → (q : List ℕ) → (mine q → ⊥) → ReadsLeft now lost q
+  pub left_behind : (lost : Files) → IsLostSince (behind_sync [] c.more) (disk_of now) lost → (q : List ℕ) → (mine q → ⊥) → ReadsLeft now lost q
   left_behind lost h q apart =
       let first : Facts = record made { calls = [] } in
       let second : Facts = record now { calls = c.more } in
@@ -411,155 +408,3 @@ module _ (mid then : Facts) (temporary bytes other : List ℕ) (set : IsSet mid 
 pub lost_set : (mid then : Facts) (temporary bytes other : List ℕ) → IsSet mid then temporary bytes → contains_key mid.files temporary ≡ false → SyncsBeginning mid (name_of Current) → (lost : Files)
     → IsLost then.files [] (disk_of then) lost → Lost mid (moment mid) (unset mid lost temporary other)
 lost_set mid then temporary bytes other set lacks sound lost h = lost_each mid (unset mid lost temporary other) (set_each mid then temporary bytes other set lacks sound lost h)
-
--- ---- files that nothing reads are written, or taken away
-
--- it is one of these names
-abbrev pub IsAmong : List ℕ → List (List ℕ) → Type 0
-IsAmong name [] = ⊥
-IsAmong name (other ∷ names) = (name ≡ other) ⊎ IsAmong name names
-
--- What a loss has left in the middle of it, but for files that nothing reads, which are as they were, is what a loss left at the beginning.
-pub record IsTaken (then : Facts) (log : List ℕ) (dead : List ℕ → Type 0) (reads : List (List ℕ)) (lost : Files) : Type 0 where
-  pub before : Files
-  pub left : Lost then (moment then) before
-  pub read : AllByRecursion (λ (q : List ℕ). get before q ≡ get lost q) reads
-  pub each : (q : List ℕ) → (get before q ≡ get lost q) ⊎ (get before q ≡ get then.files q)
-  -- what isn't dead is there where it was, and whole where it was synced whole
-  pub names : (q : List ℕ) → (dead q → ⊥) → (q ≡ log → ⊥) → contains_key lost q ≡ contains_key then.files q
-  pub kept : (q bytes : List ℕ) → (dead q → ⊥) → (q ≡ log → ⊥) → get then.files q ≡ Some bytes → then.synced q ≡ Some bytes → get lost q ≡ Some bytes
-
--- These files, but that those of these names are as the loss has left them.
-abbrev with_read : Files → Files → List (List ℕ) → Files
-with_read files lost [] = files
-with_read files lost (name ∷ names) = with_file (with_read files lost names) name (get lost name)
-
-read_still : (files lost : Files) (name q : List ℕ) → get files q ≡ get lost q → get (with_file files name (get lost name)) q ≡ get lost q
-read_still files lost name q same = elim (same_or_not q name) [
-  | inl is ↦ ap (λ (n : List ℕ). get (with_file files name (get lost name)) n) is ∙ with_file_same files name (get lost name) ∙ ap (λ (n : List ℕ). get lost n) (sym is)
-  | inr apart ↦ with_file_other files name (get lost name) q apart ∙ same
-]
-
-all_still : (files lost : Files) (name : List ℕ) (names : List (List ℕ)) → AllByRecursion (λ (q : List ℕ). get files q ≡ get lost q) names → AllByRecursion (λ (q : List ℕ). get (with_file files name (get lost name)) q ≡ get lost q) names
-all_still files lost name [] h = tt
-all_still files lost name (other ∷ names) h = (read_still files lost name other h.0, all_still files lost name names h.1)
-
-all_read : (files lost : Files) (names : List (List ℕ)) → AllByRecursion (λ (q : List ℕ). get (with_read files lost names) q ≡ get lost q) names
-all_read files lost [] = tt
-all_read files lost (name ∷ names) = (with_file_same (with_read files lost names) name (get lost name), all_still (with_read files lost names) lost name names (all_read files lost names))
-
-one_of : (P : List ℕ → Type 0) (names : List (List ℕ)) (q : List ℕ) → IsAmong q names → AllByRecursion P names → P q
-one_of P [] q among h = absurd among
-one_of P (name ∷ names) q (inl is) h = subst P (sym is) h.0
-one_of P (name ∷ names) q (inr among) h = one_of P names q among h.1
-
--- it is as the loss has left it, and isn't dead, or as it was
-read_or_whole : (files lost : Files) (dead : List ℕ → Type 0) (names : List (List ℕ)) → AllByRecursion (λ (q : List ℕ). dead q → ⊥) names → (q : List ℕ)
-    → ((get (with_read files lost names) q ≡ get lost q) × (dead q → ⊥)) ⊎ (get (with_read files lost names) q ≡ get files q)
-read_or_whole files lost dead [] alive q = inr refl
-read_or_whole files lost dead (name ∷ names) alive q = elim (same_or_not q name) [
-  | inl is ↦ inl (
-    ap (λ (n : List ℕ). get (with_read files lost (name ∷ names)) n) is ∙ with_file_same (with_read files lost names) name (get lost name) ∙ ap (λ (n : List ℕ). get lost n) (sym is),
-    λ gone. alive.0 (subst dead is gone),
-  )
-  | inr apart ↦
-      let same = with_file_other (with_read files lost names) name (get lost name) q apart in
-      elim (read_or_whole files lost dead names alive.1 q) [ inl read ↦ inl (same ∙ read.0, read.1) | inr whole ↦ inr (same ∙ whole) ]
-]
-
-left_kept : (facts : Facts) (lost : Files) (q bytes : List ℕ) → ReadsLeft facts lost q → get facts.files q ≡ Some bytes → facts.synced q ≡ Some bytes → get lost q ≡ Some bytes
-left_kept facts lost q bytes left there kept =
-    let some = some_of (get lost q) (left.name ∙ ap is_some there) in
-    let begun = left.begun.beginning some.0 some.1 in
-    let same : begun.0 ≡ bytes = (let both : Some begun.0 ≡ Some bytes = sym begun.1 ∙ there in cc) in
-    some.1 ∙ ap Some (both_begin some.0 bytes (left.begun.kept some.0 bytes some.1 kept) (subst (λ (b : List ℕ). BeginsWith b some.0) same begun.2))
-
-module _ (last then : Facts) (log : List ℕ) (dead : List ℕ → Type 0) (reads : List (List ℕ)) (ends : behind_sync [] last.calls ≡ []) (lacks : contains_key last.files log ≡ false) (adds : Adds last then (Creation log))
-    (sound : (q : List ℕ) → q ≢ log → SyncsBeginning then q) (log_alive : dead log → ⊥) (alive : AllByRecursion (λ (q : List ℕ). dead q → ⊥) reads) (log_read : IsAmong log reads) (lost : Files) where
-  abbrev restored : Files
-  restored = with_read then.files lost reads
-
-  abbrev made : Call
-  made = making last log
-
-  log_restored : get restored log ≡ get lost log
-  log_restored = one_of (λ (q : List ℕ). get restored q ≡ get lost q) reads log log_read (all_read then.files lost reads)
-
-  -- each file but the log
-  restored_each : ((q : List ℕ) → (dead q → ⊥) → q ≢ log → ReadsLeft then lost q) → (q : List ℕ) → q ≢ log → ReadsLeft then restored q
-  restored_each others q apart = elim (read_or_whole then.files lost dead reads alive q) [
-    | inl read ↦ left_like then lost restored q read.0 (others q read.1 apart)
-    | inr whole ↦ left_whole then restored q whole (sound q apart)
-  ]
-
-  made_since : behind_sync [] then.calls ≡ made ∷ []
-  made_since = ap (behind_sync []) adds.0 ∙ behind_more [] last.calls (made ∷ []) ∙ ap (λ (calls : List Call). behind_sync calls (made ∷ [])) ends
-
-  taken_by : ((q : List ℕ) → (dead q → ⊥) → q ≢ log → ReadsLeft then lost q) → Lost then (moment then) restored → IsTaken then log dead reads lost
-  taken_by others left = record {
-    before = restored;
-    left = left;
-    read = all_read then.files lost reads;
-    each = λ q. elim (read_or_whole then.files lost dead reads alive q) [ inl read ↦ inl read.0 | inr whole ↦ inr whole ];
-    names = λ q live apart. (others q live apart).name;
-    kept = λ q bytes live apart there kept. left_kept then lost q bytes (others q live apart) there kept;
-  }
-
-  -- the names are those behind the creation of the log
-  taken_behind : ((q : List ℕ) → (dead q → ⊥) → ReadsLeft then lost q) → IsTaken then log dead reads lost
-  taken_behind others =
-      let each : (q : List ℕ) → (dead q → ⊥) → q ≢ log → ReadsLeft then lost q = λ q live apart. others q live in
-      taken_by each (lost_each then restored (λ q. elim (same_or_not q log) [
-        | inl is ↦ left_like then lost restored q (ap (λ (n : List ℕ). get restored n) is ∙ log_restored ∙ ap (λ (n : List ℕ). get lost n) (sym is)) (others q (λ gone. log_alive (subst dead is gone)))
-        | inr apart ↦ restored_each each q apart
-      ]))
-
-  -- the names are those that it found
-  taken_before : ((q : List ℕ) → (dead q → ⊥) → q ≢ log → ReadsLeft then lost q) → get lost log ≡ None → IsTaken then log dead reads lost
-  taken_before others gone =
-      let none : (q : List ℕ) → q ≡ log → get restored q ≡ None = λ q is. ap (λ (n : List ℕ). get restored n) is ∙ log_restored ∙ gone in
-      let found : IsLost last.files (made ∷ []) (disk_of then) restored = record {
-        names = λ q. elim (same_or_not q log) [
-          | inl is ↦ ap is_some (none q is) ∙ sym (ap (λ (n : List ℕ). contains_key last.files n) is ∙ lacks)
-          | inr apart ↦ (restored_each others q apart).name ∙ ap is_some (made_files last log then adds q apart)
-        ];
-        beginning = λ q bytes there. elim (same_or_not q log) [
-          | inl is ↦ absurd (let bad : None ≡ Some bytes = sym (none q is) ∙ there in cc)
-          | inr apart ↦ let b = (restored_each others q apart).begun.beginning bytes there in (b.0, ap (λ (p : Held). p.0) (made_other last log [] (disk_of then) q apart tt) ∙ b.1, b.2)
-        ];
-        kept = λ q bytes synced there is. elim (same_or_not q log) [
-          | inl same ↦ absurd (let bad : None ≡ Some bytes = sym (none q same) ∙ there in cc)
-          | inr apart ↦ (restored_each others q apart).begun.kept bytes synced there (sym (ap (λ (p : Held). p.1) (made_other last log [] (disk_of then) q apart tt)) ∙ is)
-        ];
-      } in
-      taken_by others (lost_now then restored (subst (λ (calls : List Call). IsLostSince calls (disk_of then) restored) (sym made_since) (inl found)))
-
-  -- at a moment behind it
-  taken_at : (now : Facts) → KeepsAt then now dead → IsLostSince (behind_sync [] now.calls) (disk_of now) lost → IsTaken then log dead reads lost
-  taken_at now k h =
-      let c = k.carries in
-      let behind : IsLostSince (behind_sync [] c.more) (disk_of now) lost → IsTaken then log dead reads lost = λ later. taken_behind (λ q live. left_on then now lost q (k.files q live) (k.synced q live) (left_behind last then now log dead adds c lost later q live)) in
-      elim (since_made last then now log dead adds c lost h) [
-        | inl both ↦ elim (subst (λ (calls : List Call). IsLostSince (calls ++ made ∷ c.more) (disk_of now) lost) ends both.1) [
-          | inl found ↦
-              let held : (q : List ℕ) → (dead q → ⊥) → q ≢ log → held_last (made ∷ c.more) (disk_of now) q ≡ (get now.files q, now.synced q) = λ q live apart. made_other last log c.more (disk_of now) q apart (carried_each then.files dead c.more q live c.each) in
-              let others : (q : List ℕ) → (dead q → ⊥) → q ≢ log → ReadsLeft then lost q = λ q live apart. record {
-                name = found.names q ∙ sym (ap is_some (made_files last log then adds q apart));
-                begun = record {
-                  beginning = λ bytes there. let b = found.beginning q bytes there in (b.0, sym (k.files q live) ∙ sym (ap (λ (p : Held). p.0) (held q live apart)) ∙ b.1, b.2);
-                  kept = λ bytes synced there is. found.kept q bytes synced there (ap (λ (p : Held). p.1) (held q live apart) ∙ k.synced q live ∙ is);
-                };
-              } in
-              taken_before others (none_of (get lost log) (found.names log ∙ lacks))
-          | inr later ↦ behind (subst (λ (calls : List Call). IsLostSince calls (disk_of now) lost) (sym both.0) later)
-        ]
-        | inr later ↦ behind later
-      ]
-
--- Behind the creation of a log, which is read, calls write files alone that nothing reads.
-pub lost_removed : (last then new : Facts) (log : List ℕ) (dead : List ℕ → Type 0) (reads : List (List ℕ)) → behind_sync [] last.calls ≡ [] → contains_key last.files log ≡ false → Adds last then (Creation log)
-    → ((q : List ℕ) → q ≢ log → SyncsBeginning then q) → WritesOnly then new dead → (dead log → ⊥) → AllByRecursion (λ (q : List ℕ). dead q → ⊥) reads → IsAmong log reads → (lost : Files) → Lost new (moment then) lost
-    → IsTaken then log dead reads lost
-lost_removed last then new log dead reads ends lacks adds sound writes log_alive alive log_read =
-    loses_at then new (IsTaken then log dead reads) (λ m least most lost at.
-    taken_at last then log dead reads ends lacks adds sound log_alive alive log_read lost (facts_at new m) (keeps_at then new dead m writes least) (lost_here (facts_at new m) lost at))

@@ -1,5 +1,5 @@
 -- What a loss of power leaves while an open that was accepted removes the files that aren't live: what it left in front of the open.
-use Rattle.std.proofs.Common.{◌≡◌, ◌≢◌, ◌⊎◌, ◌<◌, ◌≤◌, ◌+◌, ◌++◌, ◌∷◌, ℕ, Bool, false, true, IsTrue, List, [], Option, Some, None, if◌then◌else◌, is_some, map, string_bytes, inl, inr, refl, sym, ap, subst, ◌∙◌, arith, append_assoc}
+use Rattle.std.proofs.Common.{◌≡◌, ◌≢◌, ◌⊎◌, ◌<◌, ◌≤◌, ◌+◌, ◌++◌, ◌∷◌, ℕ, Bool, false, true, IsTrue, List, [], Option, Some, None, if◌then◌else◌, is_some, map, string_bytes, inl, inr, refl, sym, ap, subst, ◌∙◌, arith, append-nil, append_assoc}
 use Rattle.std.specs.FinMap.{contains_key, get}
 use Rattle.std.specs.List.{AllByRecursion}
 use Rattle.std.specs.Option.{option_or}
@@ -20,6 +20,8 @@ use Rattle.opening.proofs.Reopening.{files_apart, next_of, numbered_of}
 use Rattle.opening.proofs.Uncut.{IsSet, renamed_set, set_synced}
 use Rattle.opening.specs.Losses.{IsKept}
 use Rattle.opening.specs.internal.Cuts.{ReadsNone}
+use Rattle.opening.specs.declared.directory.CurrentLog.{CurrentLog}
+use Rattle.opening.specs.declared.directory.DirectoryState.{DirectoryState}
 use Rattle.opening.specs.internal.Renewing.{RenewsAll, RenewsWhole}
 use Rattle.recover.proofs.Adding.{table_of}
 use Rattle.recover.proofs.Keeping.{keep_manifest}
@@ -31,7 +33,7 @@ use Rattle.recover.specs.Tables.{InTables, TableContent, table_at}
 use Rattle.recover.specs.internal.Laws.{Agree, IsSameLayout}
 use Rattle.store.proofs.LosingOn.{loses_both, loses_later}
 use Rattle.store.specs.Files.{Call, Facts, Files}
-use Rattle.store.specs.Losses.{LosesOnly, Lost, SyncsBeginnings, behind_sync}
+use Rattle.store.specs.Losses.{LosesOnly, Lost, SyncsBeginnings}
 use Rattle.store.specs.Stops.{WritesOnly, moment}
 use Rattle.table_access.specs.Tables.{Seen}
 use Rattle.engine.proofs.Flags.{opens_flag}
@@ -39,7 +41,7 @@ use Rattle.engine.proofs.HoldingOn.{IsAsLeft, holds_agreeing, spares_before}
 use Rattle.engine.proofs.InUse.{table_used}
 use Rattle.engine.proofs.LosingCalls.{reads_none}
 use Rattle.engine.proofs.LosingPieces.{serving_whole}
-use Rattle.engine.proofs.LostEarlier.{IsAmong, IsTaken, lost_removed}
+use Rattle.engine.proofs.LostRemovals.{EndsAfresh, IsAmong, IsMadeAlone, IsTaken, afresh_each, lost_removed}
 use Rattle.engine.proofs.RecentLosses.{in_second}
 use Rattle.engine.proofs.ReopeningSteps.{left_stays, stays_through}
 use Rattle.engine.proofs.StayedNames.{SparesRead, spares_dead}
@@ -50,6 +52,7 @@ use Rattle.engine.specs.OpenDb.{OpenDb}
 use Rattle.engine.specs.Reopening.{LeavesFirst, LosesOn, StaysOrGoes}
 use Rattle.engine.specs.Working.{IsLiveIn, LosesDead}
 use Rattle.engine.specs.declared.ids.Ids.{Ids}
+use Rattle.engine.specs.internal.Logs.{SyncsEach}
 use Rattle.engine.specs.internal.Resting.{Rests}
 use Rattle.engine.specs.internal.Standing.{IsServing, StandsOpen}
 
@@ -257,7 +260,7 @@ GoesTo a b = (more : List Call) × (b.calls ≡ a.calls ++ more)
 to_both : (a b c : Facts) → GoesTo a b → GoesTo b c → GoesTo a c
 to_both a b c h k = (h.0 ++ k.0, k.1 ∙ ap (λ (calls : List Call). calls ++ k.0) h.1 ∙ append_assoc a.calls h.0 k.0)
 
-module _ (order : Order) (old made : Facts) (k : ℕ) (content current : List ℕ) (numbered : IsNumbered k) (next : IsNumbered (k + 1)) (lacks : contains_key old.files (name_of (Log (k + 1))) ≡ false)
+module _ (old made : Facts) (k : ℕ) (content current : List ℕ) (numbered : IsNumbered k) (next : IsNumbered (k + 1)) (lacks : contains_key old.files (name_of (Log (k + 1))) ≡ false)
     (all : RenewsAll old made (name_of (Manifest k)) content (name_of (Temporary k)) current (name_of (Log (k + 1)))) where
   abbrev between : Facts
   between = all.0
@@ -277,33 +280,25 @@ module _ (order : Order) (old made : Facts) (k : ℕ) (content current : List �
   set : IsSet between last (name_of (Temporary k)) current
   set = set_synced between third last (name_of (Temporary k)) current (renamed_set between front third (name_of (Temporary k)) current all.3.2 all.3.3.0.1 all.3.3.1) all.3.4.0.1 all.3.4.1
 
-  pub calls_all : GoesTo old made
+  calls_all : GoesTo old made
   calls_all =
       to_both old last made (to_both old third last (to_both old front third (to_both old between front (all.2.only.leaves.more, all.2.only.leaves.calls) (all.3.2.only.leaves.more, all.3.2.only.leaves.calls)) (_, all.3.3.0.0)) (_, all.3.4.0.0)) (_, all.5.0)
-
-  pub ends_all : behind_sync [] last.calls ≡ []
-  ends_all = behind_added third last (name_of Current) all.3.4.0
 
   left_last : (q : List ℕ) → q ≢ name_of (Manifest k) → q ≢ name_of (Temporary k) → q ≢ name_of Current → LeavesFile old last q
   left_last q a b c =
       let second = set.others q b c in
       (second.0 ∙ all.2.only.leaves.now q a, second.1 ∙ all.2.only.synced q a)
 
-  pub lacks_all : contains_key last.files new_log ≡ false
+  lacks_all : contains_key last.files new_log ≡ false
   lacks_all =
       ap is_some (left_last new_log (files_apart (Log (k + 1)) (Manifest k) next numbered (λ e. cc)) (files_apart (Log (k + 1)) (Temporary k) next numbered (λ e. cc)) (files_apart (Log (k + 1)) Current next tt (λ e. cc))).0
       ∙ lacks
 
--- ---- the removal at its end
+  -- the log was made alone behind the sync of `CURRENT`
+  alone : IsMadeAlone last made new_log
+  alone = record { ends = behind_added third last (name_of Current) all.3.4.0; lacks = lacks_all; adds = all.5 }
 
-module _ {K : Type 0} {g : _} (order : Order) (old : Facts) (mid : Seen) (db : OpenDb K g) (n : Machine) (serving : IsServing order mid db n) (same : serving.ideal ≡ mid.facts.files) (sound : SyncsBeginnings mid.facts) (whole : RenewsWhole order old mid.facts db.log db.directory)
-    (new : Facts) (writes : WritesOnly mid.facts new (IsDead (IsLiveIn mid.facts.files db))) (left : (q : List ℕ) → LeavesFile mid.facts new q ⊎ (get new.files q ≡ None)) where
-  abbrev Dead : List ℕ → Type 0
-  Dead = IsDead (IsLiveIn mid.facts.files db)
-
-  abbrev d : Directory
-  d = serving.log.directory.directory
-
+module _ (order : Order) (old made : Facts) (log : CurrentLog) (state : DirectoryState) (whole : RenewsWhole order old made log state) where
   abbrev k : ℕ
   k = whole.found.number
 
@@ -313,32 +308,12 @@ module _ {K : Type 0} {g : _} (order : Order) (old : Facts) (mid : Seen) (db : O
   abbrev current : List ℕ
   current = whole.rewrite.current.items
 
-  abbrev log : List ℕ
-  log = name_of (Log (k + 1))
-
-  spares : SparesRead Dead mid.facts.files db.directory db.tables
-  spares = spares_dead mid.facts.files db.log db.directory db.tables (λ number. IsTableUsed db.tables db.job db.iterators number) serving.synced.names
-      (λ p there. table_used db.tables db.job db.iterators p.table.number (p, there, refl))
-
-  unread : ReadsNone mid.facts.files d Dead
-  unread = reads_none order mid db n serving same new Dead writes spares
-
-  good : IsConsistent order mid.facts.files d
-  good = subst (λ (fs : Files). IsConsistent order fs d) same serving.log.directory.consistent
-
-  -- the new log is the last of them
-  log_in_all : InLogs d.logs (k + 1)
-  log_in_all =
-      let ends = serving.log.directory.ends in
-      let last : InLogs d.logs ends.last.number = subst (λ (logs : List LogContent). InLogs logs ends.last.number) (sym ends.logs) (in_second ends.last.number ends.before (ends.last ∷ []) (inl refl)) in
-      subst (InLogs d.logs) (ends.number ∙ whole.log_number) last
-
-  all : RenewsAll old mid.facts (name_of (Manifest k)) content (name_of (Temporary k)) current log
+  all : RenewsAll old made (name_of (Manifest k)) content (name_of (Temporary k)) current (name_of (Log (k + 1)))
   all =
       let p = whole.planned in
-      let A : List ℕ → Type 0 = λ name. RenewsAll old mid.facts name content (string_bytes whole.rewrite.temporary_name) current (string_bytes whole.rewrite.log_name) in
-      let B : List ℕ → Type 0 = λ name. RenewsAll old mid.facts (name_of (Manifest k)) content name current (string_bytes whole.rewrite.log_name) in
-      let C : List ℕ → Type 0 = λ name. RenewsAll old mid.facts (name_of (Manifest k)) content (name_of (Temporary k)) current name in
+      let A : List ℕ → Type 0 = λ name. RenewsAll old made name content (string_bytes whole.rewrite.temporary_name) current (string_bytes whole.rewrite.log_name) in
+      let B : List ℕ → Type 0 = λ name. RenewsAll old made (name_of (Manifest k)) content name current (string_bytes whole.rewrite.log_name) in
+      let C : List ℕ → Type 0 = λ name. RenewsAll old made (name_of (Manifest k)) content (name_of (Temporary k)) current name in
       subst C p.log_name (subst B p.temporary_name (subst A p.manifest_name whole.renews))
 
   numbered : IsNumbered k
@@ -347,51 +322,96 @@ module _ {K : Type 0} {g : _} (order : Order) (old : Facts) (mid : Seen) (db : O
   next : IsNumbered (k + 1)
   next = next_of whole.found whole.usable
 
-  lacks : contains_key old.files log ≡ false
-  lacks = at (get old.files log) refl
+  lacks : contains_key old.files (name_of (Log (k + 1))) ≡ false
+  lacks = at (get old.files (name_of (Log (k + 1)))) refl
     where
-      at : (o : Option (List ℕ)) → get old.files log ≡ o → contains_key old.files log ≡ false
+      at : (o : Option (List ℕ)) → get old.files (name_of (Log (k + 1))) ≡ o → contains_key old.files (name_of (Log (k + 1))) ≡ false
       at None none = ap is_some none
       at (Some bytes) there = absurd (let bad : k + 1 < k = whole.finds.number.0.listed (Log (k + 1)) next (ap is_some there) in omega (arith, bad))
 
+  whole_calls : GoesTo old made
+  whole_calls = calls_all old made k content current numbered next lacks all
+
+  whole_afresh : EndsAfresh made (name_of (Log log.number))
+  whole_afresh =
+      subst (λ (n : ℕ). EndsAfresh made (name_of (Log n))) (sym whole.log_number) (inr (all.1, alone old made k content current numbered next lacks all))
+
+-- ---- and the syncs behind it
+
+each_calls : (names : List (List ℕ)) (old new : Facts) → SyncsEach names old new → GoesTo old new
+each_calls [] old new idle = ([], idle.0 ∙ sym (append-nil old.calls))
+each_calls (name ∷ names) old new h = to_both old h.0 new (_, h.1.0) (each_calls names h.0 new h.3)
+
+-- ---- the removal at its end
+
+module _ {K : Type 0} {g : _} (order : Order) (old : Facts) (kept : Seen) (db : OpenDb K g) (n : Machine) (serving : IsServing order kept db n) (same : serving.ideal ≡ kept.facts.files) (sound : SyncsBeginnings kept.facts) (goes : GoesTo old kept.facts)
+    (afresh : EndsAfresh kept.facts (name_of (Log db.log.number))) (new : Facts) (writes : WritesOnly kept.facts new (IsDead (IsLiveIn kept.facts.files db))) (left : (q : List ℕ) → LeavesFile kept.facts new q ⊎ (get new.files q ≡ None)) where
+  abbrev Dead : List ℕ → Type 0
+  Dead = IsDead (IsLiveIn kept.facts.files db)
+
+  abbrev d : Directory
+  d = serving.log.directory.directory
+
+  abbrev log : List ℕ
+  log = name_of (Log db.log.number)
+
+  spares : SparesRead Dead kept.facts.files db.directory db.tables
+  spares = spares_dead kept.facts.files db.log db.directory db.tables (λ number. IsTableUsed db.tables db.job db.iterators number) serving.synced.names
+      (λ p there. table_used db.tables db.job db.iterators p.table.number (p, there, refl))
+
+  unread : ReadsNone kept.facts.files d Dead
+  unread = reads_none order kept db n serving same new Dead writes spares
+
+  good : IsConsistent order kept.facts.files d
+  good = subst (λ (fs : Files). IsConsistent order fs d) same serving.log.directory.consistent
+
+  -- the new log is the last of them
+  log_in_all : InLogs d.logs db.log.number
+  log_in_all =
+      let ends = serving.log.directory.ends in
+      let last : InLogs d.logs ends.last.number = subst (λ (logs : List LogContent). InLogs logs ends.last.number) (sym ends.logs) (in_second ends.last.number ends.before (ends.last ∷ []) (inl refl)) in
+      subst (InLogs d.logs) ends.number last
+
   -- What a loss has left in its middle, but for what isn't read.
-  taken : (lost : Files) → Lost new (moment mid.facts) lost → IsTaken mid.facts log Dead (names_read mid.facts.files d) lost
+  taken : (lost : Files) → Lost new (moment kept.facts) lost → IsTaken kept.facts log Dead (names_read kept.facts.files d) lost
   taken lost h =
-      let last = all.1 in
-      lost_removed last mid.facts new log Dead (names_read mid.facts.files d) (ends_all order old mid.facts k content current numbered next lacks all) (lacks_all order old mid.facts k content current numbered next lacks all) all.5
-      (λ q apart. sound q) writes (unread log (inr (log_in order mid.facts.files d (k + 1) good log_in_all)))
-      (none_dead order mid.facts Dead d good unread) (names_log order mid.facts Dead d good unread (k + 1) log_in_all) lost h
+      lost_removed kept.facts new log Dead (names_read kept.facts.files d) afresh sound writes (none_dead order kept.facts Dead d good unread) (names_log order kept.facts Dead d good unread db.log.number log_in_all) lost h
 
-  stays_or_goes : (q : List ℕ) → StaysOrGoes mid.facts new q
-  stays_or_goes q = elim (left q) [ inl stayed ↦ left_stays mid.facts new q stayed | inr gone ↦ inl gone ]
+  stays_or_goes : (q : List ℕ) → StaysOrGoes kept.facts new q
+  stays_or_goes q = elim (left q) [ inl stayed ↦ left_stays kept.facts new q stayed | inr gone ↦ inl gone ]
 
-  as_left : (lost : Files) (h : Lost new (moment mid.facts) lost) (q : List ℕ) → IsAsLeft mid.facts (taken lost h).before lost q
+  as_left : (lost : Files) (h : Lost new (moment kept.facts) lost) (q : List ℕ) → IsAsLeft kept.facts (taken lost h).before lost q
   as_left lost h q = elim ((taken lost h).each q) [ inl is ↦ inl is | inr was ↦ inr (inr was) ]
 
-  pub removed_on : LosesOn order old mid.facts → LosesOn order old new
+  pub removed_on : LosesOn order old kept.facts → LosesOn order old new
   removed_on opens since bound m stays here =
       let P = LeavesFirst order since bound m in
       let first = opens since bound m stays here in
-      let calls = calls_all order old mid.facts k content current numbered next lacks all in
-      let before : LosesOnly mid.facts mid.facts P = loses_later old mid.facts calls.0 P calls.1 first.0 in
-      let behind : LosesOnly mid.facts new P = λ lost h spared.
+      let before : LosesOnly kept.facts kept.facts P = loses_later old kept.facts goes.0 P goes.1 first.0 in
+      let behind : LosesOnly kept.facts new P = λ lost h spared.
       let t = taken lost h in
-      holds_taken order mid.facts Dead d good unread (k + 1) log_in_all serving.synced.synced.current (subst (λ (i : ℕ). IsKept mid.facts (name_of (Manifest i))) serving.log.knows.number serving.synced.synced.manifest) lost t m
-      (before t.before t.left (spares_before since mid.facts bound t.before lost first.1.each
+      holds_taken order kept.facts Dead d good unread db.log.number log_in_all serving.synced.synced.current (subst (λ (i : ℕ). IsKept kept.facts (name_of (Manifest i))) serving.log.knows.number serving.synced.synced.manifest) lost t m
+      (before t.before t.left (spares_before since kept.facts bound t.before lost first.1.each
       (λ i num below. (as_left lost h (name_of (Table i)), as_left lost h (name_of (OldTable i)), as_left lost h (name_of (Log i)))) spared)) in (
-        loses_both old mid.facts new writes.leaves.more P writes.leaves.calls first.0 behind,
-        stays_through since mid.facts new bound (writes.leaves.now (name_of Current) (unread (name_of Current) (inl (inl refl))))
+        loses_both old kept.facts new writes.leaves.more P writes.leaves.calls first.0 behind,
+        stays_through since kept.facts new bound (writes.leaves.now (name_of Current) (unread (name_of Current) (inl (inl refl))))
             (λ i num below. (stays_or_goes (name_of (Table i)), stays_or_goes (name_of (OldTable i)), stays_or_goes (name_of (Log i)))) first.1,
       )
 
--- From each state without damage that the directory may be in.
-pub opened_on : {K : Type 0} {g : _} (order : Order) (old : Facts) (mid new : Seen) (db after : OpenDb K g) (mode : Mode) → (IsTrue new.facts.faithful → IsTrue mid.facts.faithful)
-    → ((ids : Ids) → Leads old mid.facts (Rests order old ids) (StandsOpen order mid ids db) (λ m n. Opens m mode Done n)) → (IsTrue mid.facts.faithful → LosesOn order old mid.facts)
-    → SyncsBeginnings mid.facts → (IsTrue mid.facts.faithful → RenewsWhole order old mid.facts db.log db.directory) → db.broken ≡ false
-    → (IsTrue new.facts.faithful → WritesOnly mid.facts new.facts (IsDead (IsLiveIn mid.facts.files db))) → (IsTrue new.facts.faithful → LosesDead mid.facts new.facts after)
+-- From each state without damage that the directory may be in, with syncs in front of it.
+pub opened_on : {K : Type 0} {g : _} (order : Order) (old : Facts) (mid kept new : Seen) (db cleared after : OpenDb K g) (mode : Mode) → (IsTrue new.facts.faithful → IsTrue kept.facts.faithful) → (IsTrue kept.facts.faithful → IsTrue mid.facts.faithful)
+    → ((ids : Ids) → Leads old kept.facts (Rests order old ids) (StandsOpen order kept ids cleared) (λ m n. Opens m mode Done n)) → (IsTrue kept.facts.faithful → LosesOn order old kept.facts)
+    → SyncsBeginnings kept.facts → (IsTrue mid.facts.faithful → RenewsWhole order old mid.facts db.log db.directory) → (IsTrue kept.facts.faithful → (done : List (List ℕ)) × SyncsEach done mid.facts kept.facts)
+    → cleared.log.number ≡ db.log.number → cleared.broken ≡ false
+    → (IsTrue new.facts.faithful → WritesOnly kept.facts new.facts (IsDead (IsLiveIn kept.facts.files cleared))) → (IsTrue new.facts.faithful → LosesDead kept.facts new.facts after)
     → IsTrue new.facts.faithful → (ids : Ids) (m : Machine) → m.damaged ≡ false → Rests order old ids m → LosesOn order old new.facts
-opened_on order old mid new db after mode back step first sound renewed whole only removes f ids m undamaged r =
+opened_on order old mid kept new db cleared after mode back further step first sound renewed syncs number whole only removes f ids m undamaged r =
     let one = (step ids).moved (back f) m r in
     let n = one.0 in
-    let serving = serving_whole order mid ids db n (record { stands = one.2; undamaged = opens_flag m n mode Done one.1 ∙ undamaged }) whole in
-    removed_on order old mid db n serving refl sound (renewed (back f)) new.facts (only f) (λ q. elim (removes f q) [ inl left ↦ inl left | inr gone ↦ inr gone.1 ]) (first (back f))
+    let serving = serving_whole order kept ids cleared n (record { stands = one.2; undamaged = opens_flag m n mode Done one.1 ∙ undamaged }) whole in
+    let wrote = renewed (further (back f)) in
+    let each = syncs (back f) in
+    let goes = to_both old mid.facts kept.facts (whole_calls order old mid.facts db.log db.directory wrote) (each_calls each.0 mid.facts kept.facts each.1) in
+    let made = afresh_each each.0 mid.facts kept.facts (name_of (Log db.log.number)) each.1 (whole_afresh order old mid.facts db.log db.directory wrote) in
+    let afresh : EndsAfresh kept.facts (name_of (Log cleared.log.number)) = subst (λ (i : ℕ). EndsAfresh kept.facts (name_of (Log i))) (sym number) made in
+    removed_on order old kept cleared n serving refl sound goes afresh new.facts (only f) (λ q. elim (removes f q) [ inl left ↦ inl left | inr gone ↦ inr gone.1 ]) (first (back f))

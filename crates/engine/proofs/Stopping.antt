@@ -154,7 +154,7 @@ written_back order source ids db m n operations sync s writes files holds = at d
 
 -- ---- a run
 
-faithful_before : {S K : Type 0} {g : _} (order : Order) (facts : S → Facts) (ops : List Op) (answers : List Answer) (old new : Session S K g) → AllApplied order facts ops answers old new
+pub faithful_before : {S K : Type 0} {g : _} (order : Order) (facts : S → Facts) (ops : List Op) (answers : List Answer) (old new : Session S K g) → AllApplied order facts ops answers old new
     → IsTrue (facts (store_of new)).faithful → IsTrue (facts (store_of old)).faithful
 faithful_before {S} {K} {g} order facts [] [] old new same f = subst (λ (s : Session S K g). IsTrue (facts (store_of s)).faithful) same f
 faithful_before order facts (op ∷ ops) (answer ∷ answers) old new h f = h.1.step.faithful (faithful_before order facts ops answers h.0 new h.2 f)

@@ -38,7 +38,10 @@ use Rattle.engine.specs.Outcomes.{IsAnswerTo, Outcome, Succeeds, keeps_of, stood
 use Rattle.machine.specs.Causes.{Status, cause_of}
 use Rattle.engine.specs.Opened.{OpenedTidy}
 use Rattle.engine.specs.Causes.{IsCaused, IsCausedIn, open_status, status_in}
+use Rattle.engine.specs.Losses.{LosesBy}
+use Rattle.engine.specs.Reopening.{FreshBy, KeepsLogsBy, LosesOnBy, SessionKeepsFound}
 use Rattle.engine.specs.Stops.{StopsBy}
+use Rattle.store.specs.Losses.{SyncsBeginnings}
 use Rattle.engine.specs.Touching.{SyncsLog, LeavesStore, CloseTouches, Touches}
 use Rattle.engine.specs.Telling.{CommandTells}
 
@@ -195,6 +198,12 @@ pub record Applied {S K : Type 0} {g : _} (order : Order) (facts : S → Facts) 
   pub leaves : LeavesBy op new answer
   pub lets_go : LetsGo op new answer
   pub stops : StopsBy op order facts old new
+  pub loses : LosesBy op order facts old new
+  pub found : SessionKeepsFound order facts old new
+  pub loses_on : LosesOnBy op order facts old new
+  pub kept : KeepsLogsBy op facts new answer
+  pub fresh : FreshBy op new answer
+  pub sound : SyncsBeginnings (facts (store_of old))
   pub works : WorkDoneBy op order facts old new answer
   pub needed : NeededBy op order facts old new answer
   pub shut : ShutBy op new

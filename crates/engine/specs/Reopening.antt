@@ -5,9 +5,12 @@ use Rattle.edits.specs.Names.{IsNumbered, name_of}
 use Rattle.edits.specs.declared.names.FileName.TheVariants.{Current, Log, Manifest, OldTable, Table}
 use Rattle.ikey.specs.Orders.{Order}
 use Rattle.machine.specs.Machine.{Machine}
+use Rattle.machine.specs.declared.command.Answer.{Answer}
+use Rattle.machine.specs.declared.command.Answer.TheVariants.{Done}
 use Rattle.machine.specs.declared.command.Op.{Op}
 use Rattle.machine.specs.declared.command.Op.TheVariants.{Open}
-use Rattle.opening.specs.Losses.{IsKept}
+use Rattle.opening.specs.Losses.{IsKept, IsLogRead}
+use Rattle.opening.specs.declared.directory.DirectoryState.{DirectoryState}
 use Rattle.store.specs.Files.{Facts, Files, lock_name}
 use Rattle.store.specs.Losses.{LosesOnly}
 use Rattle.engine.specs.Losses.{HoldsFirst, SparesBelow}
@@ -55,6 +58,14 @@ DbKeepsFound order facts old new = IsTrue (facts (db_store_of new)).faithful →
 abbrev pub DbNamesManifest : {S K : Type 0} {g : _} → Order → (S → Facts) → Db S K g → Type 0
 DbNamesManifest order facts db = (m : Machine) → m.damaged ≡ false → StandsDb order facts db m → (open_by db).broken ≡ false → NamesManifest (facts (db_store_of db)) (open_by db).directory.manifest.number
 
+-- The logs that were there before its open and that the next one reads are synced whole.
+abbrev pub HasKeptLogs : Facts → DirectoryState → Type 0
+HasKeptLogs facts state = (n : ℕ) → IsNumbered n → n < state.manifest.number → IsLogRead state n → IsKept facts (name_of (Log n))
+
+-- No compaction is under way, and no iterator is open.
+abbrev pub IsFresh : {K : Type 0} {g : _} → OpenDb K g → Type 0
+IsFresh db = (db.job ≡ None) × (db.iterators.entries ≡ [])
+
 -- ---- an open
 
 -- A loss leaves the first of the batches of a machine, if it spares the files with numbers below this one that were there then.
@@ -91,6 +102,27 @@ SessionKeepsFound order facts old new = IsTrue (facts (store_of new)).faithful �
 abbrev pub SessionLosesOn : {S K : Type 0} {g : _} → Order → (S → Facts) → Session S K g → Session S K g → Type 0
 SessionLosesOn order facts old new = IsTrue (facts (store_of new)).faithful → IsSome (get (facts (store_of old)).files lock_name) → (m : Machine) → m.damaged ≡ false → Stands order facts old m
     → LosesOn order (facts (store_of old)) (facts (store_of new))
+
+-- The logs that an accepted open found are synced whole.
+abbrev pub KeptOver : {K : Type 0} {g : _} → Facts → Option (OpenDb K g) → Answer → Type 0
+KeptOver facts (Some db) Done = IsTrue facts.faithful → HasKeptLogs facts db.directory
+KeptOver facts state answer = Unit {0}
+
+abbrev pub SessionKeepsLogs : {S K : Type 0} {g : _} → (S → Facts) → Session S K g → Answer → Type 0
+SessionKeepsLogs facts new answer = KeptOver (facts (store_of new)) (open_in new) answer
+
+abbrev pub KeepsLogsBy : {S K : Type 0} {g : _} → Op → (S → Facts) → Session S K g → Answer → Type 0
+KeepsLogsBy (Open mode) facts new answer = SessionKeepsLogs facts new answer
+KeepsLogsBy _ facts new answer = Unit {0}
+
+-- Nothing is under way behind it.
+abbrev pub FreshOver : {K : Type 0} {g : _} → Option (OpenDb K g) → Answer → Type 0
+FreshOver (Some db) Done = IsFresh db
+FreshOver state answer = Unit {0}
+
+abbrev pub FreshBy : {S K : Type 0} {g : _} → Op → Session S K g → Answer → Type 0
+FreshBy (Open mode) new answer = FreshOver (open_in new) answer
+FreshBy _ new answer = Unit {0}
 
 -- what is said of a command
 abbrev pub LosesOnBy : {S K : Type 0} {g : _} → Op → Order → (S → Facts) → Session S K g → Session S K g → Type 0

@@ -6,6 +6,7 @@ ghost use Rattle.ikey.specs.Orders.{Order, order_of};
 ghost use Rattle.machine.specs.declared.command.Answer.{Answer};
 ghost use Rattle.engine.specs.Headline.{FirstLaw, Headline};
 ghost use Rattle.engine.specs.Origins.{ComesFrom};
+ghost use Rattle.engine.specs.LosesRun.{LosesRun};
 ghost use Rattle.engine.specs.OverDamage.{OverDamage};
 ghost use Rattle.store.specs.Files.{Files};
 ghost use Rattle.engine.specs.Stops.{StopsRun};
@@ -63,6 +64,9 @@ pub fn run_over<S: Store, K: KeyOrder>(
     // A stop at any moment of it leaves what the commands that were answered by then have accepted.
     ensures stops { OnOk result.0 ((answers : List Answer) × (sink.new.items ≡ sink.old.items ++ answers)
         × StopsRun (order_of K.name K.cmp) (S.facts store) (S.facts result.1) ops.now answers) }
+    // So does a loss of power the first of it, where the device has the files at its begin.
+    ensures loses { OnOk result.0 ((answers : List Answer) × (sink.new.items ≡ sink.old.items ++ answers)
+        × LosesRun (order_of K.name K.cmp) (S.facts store) (S.facts result.1) ops.now answers) }
     ensures refused { OnErr result.0 ((sink.new.items ≡ sink.old.items) × LeavesStore (S.facts store) (S.facts result.1)) }
     ensures memory { IfErr result.0 (λ error. error ≡ OutOfMemory) }
     ensures faithful { IsTrue (S.facts result.1).faithful → IsTrue (S.facts store).faithful }
@@ -72,5 +76,7 @@ pub fn run_over<S: Store, K: KeyOrder>(
     ends();
     let mut session: Session<S, K> = Session::new(alloc, store, options);
     let result = session.run(alloc, ops, sink);
+    // A law, for the proof alone.
+    session.store().synced_law();
     (result, session.into_store())
 }

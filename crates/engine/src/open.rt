@@ -10,13 +10,16 @@ ghost use Rattle.store.specs.Stops.{LeavesOnly};
 ghost use Rattle.machine.specs.Machine.{Machine};
 ghost use Rattle.engine.specs.internal.Directory.{MeansAccepted};
 ghost use Rattle.directory_writes.specs.Differing.{OfEach};
+ghost use Rattle.edits.specs.Names.{name_of};
+ghost use Rattle.edits.specs.declared.names.FileName.TheVariants.{Log};
 ghost use Rattle.opening.specs.internal.Calls.{TakesLock};
 ghost use Rattle.machine.specs.Lifetime.{Opens};
 ghost use Rattle.engine.specs.internal.Standing.{StandsClosed};
 ghost use Rattle.engine.specs.Follows.{Leads, unit_answer};
 ghost use Rattle.engine.specs.declared.ids.Ids.{Ids};
+ghost use Rattle.engine.specs.OpenDb.{open_db};
 ghost use Rattle.engine.specs.Opened.{IsTidy};
-ghost use Rattle.engine.specs.Reopening.{LosesOn, OpenLosesOn};
+ghost use Rattle.engine.specs.Reopening.{HasKeptLogs, IsFresh, LosesOn, OpenLosesOn};
 ghost use Rattle.engine.specs.internal.Resting.{LosesMeaning, Rests, StandsResult, is_of_memory};
 ghost use Rattle.opening.specs.internal.Opening.{IsContinued};
 ghost use Rattle.opening.specs.internal.Durable.{HasDurable, Spares};
@@ -30,7 +33,7 @@ ghost use Rattle.opening.specs.Telling.{Tells};
 ghost use Rattle.opening.specs.internal.Outcome.{OpenOutcome};
 ghost use Rattle.db_cursor.specs.Whole.{seen_of};
 
-use crate::log::LogBuffers;
+use crate::log::{LogBuffers, keep_front};
 use crate::options::Options;
 use crate::state::DbState;
 use coding::DbError;
@@ -42,11 +45,12 @@ use recover::free_change_law;
 use std::alloc::Global;
 use std::collections::BTreeMap;
 use store::{Store, StoreError};
-use table_access::empty_is_sound;
+use table_access::{empty_is_sound, sound_stays};
 
-/// Opens the database of a store: takes the lock, reads what is there, writes a new MANIFEST, `CURRENT` and a new log, and
-/// removes the files that aren't live. Where one can't be removed, or the store can't list them, they are left for the next time, and
-/// the open is accepted. A refusal releases the lock, and removes nothing. Nothing that was kept of tables before stays.
+/// Opens the database of a store: takes the lock, reads what is there, writes a new MANIFEST, `CURRENT` and a new log, has the device keep
+/// the logs that it found, and removes the files that aren't live. Where one can't be removed, or the store can't list them, they are left
+/// for the next time, and the open is accepted. A refusal releases the lock, and removes nothing. Nothing that was kept of tables before
+/// stays.
 pub fn open_store<K: KeyOrder, S: Store>(
     alloc: Global,
     source: &mut Sources<K, S>,
@@ -75,6 +79,10 @@ pub fn open_store<K: KeyOrder, S: Store>(
         → LosesMeaning (order_of K.name K.cmp) (S.facts source.old.tables.store) (S.facts source.new.tables.store) m }
     // And where each loss in front of it leaves the first of the batches, so does each in its middle.
     ensures loses_on { (ids : Ids) → OpenLosesOn (order_of K.name K.cmp) (S.facts source.old.tables.store) (S.facts source.new.tables.store) ids }
+    // The device has the logs that it found.
+    ensures kept { IfOk result (λ state. IsTrue (S.facts source.new.tables.store).faithful
+        → HasKeptLogs (S.facts source.new.tables.store) state.directory) }
+    ensures fresh { IfOk result (λ state. IsFresh (open_db source.new.memory state)) }
 {
     // Laws, for the proof alone.
     free_change_law();
@@ -102,7 +110,8 @@ fn take_lock<S: Store>(store: &mut S) -> Result<(), DbError>
     }
 }
 
-// Opens it, while the lock is held, and removes the files that aren't live.
+// Opens it, while the lock is held, has the device keep the logs that it found, since who wrote them may not have, and removes the files that
+// aren't live.
 fn open_and_clean<K: KeyOrder, S: Store>(
     alloc: Global,
     source: &mut Sources<K, S>,
@@ -133,10 +142,18 @@ fn open_and_clean<K: KeyOrder, S: Store>(
     ensures loses_on { IsTrue (S.facts source.new.tables.store).faithful → (ids : Ids) (m : Machine)
         → m.damaged ≡ false → Rests (order_of K.name K.cmp) (S.facts source.old.tables.store) ids m
         → LosesOn (order_of K.name K.cmp) (S.facts source.old.tables.store) (S.facts source.new.tables.store) }
+    ensures kept { IfOk result (λ state. IsTrue (S.facts source.new.tables.store).faithful
+        → HasKeptLogs (S.facts source.new.tables.store) state.directory) }
+    ensures fresh { IfOk result (λ state. IsFresh (open_db source.new.memory state)) }
 {
-    let state = open_locked::<K, S>(alloc, source, options, mode)?;
+    // A law, for the proof alone.
+    sound_stays();
+    let mut state = open_locked::<K, S>(alloc, source, options, mode)?;
     // A law, for the proof alone.
     source.tables.store.synced_law();
+    if keep_front(&mut source.tables.store, &mut state.log).is_err() {
+        return Err(DbError::Io);
+    }
     match state.clean(alloc, source) {
         Ok(_) => Ok(state),
         Err(error) => {
@@ -198,6 +215,8 @@ fn open_locked<K: KeyOrder, S: Store>(
         → BeginsSynced (S.facts source.old.tables.store) (S.facts source.new.tables.store) state.log state.directory) }
     ensures since { IfOk result (λ state. IsTrue (S.facts source.new.tables.store).faithful
         → BeginsSpared (S.facts source.new.tables.store) (string_bytes state.log.name)) }
+    ensures fresh { IfOk result (λ state. IsFresh (open_db source.new.memory state)) }
+    ensures named { IfOk result (λ state. string_bytes state.log.name ≡ name_of (Log state.log.number)) }
     ensures empty { IfOk result (λ state. state.log.end ≡ 0) }
     ensures loses_on { IsTrue (S.facts source.new.tables.store).faithful
         → LosesOn (order_of K.name K.cmp) (S.facts source.old.tables.store) (S.facts source.new.tables.store) }

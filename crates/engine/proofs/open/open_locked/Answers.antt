@@ -140,6 +140,9 @@ returns-clause-begins g c = λ f.
 pub returns-clause-since : goal.returns-clause-since
 returns-clause-since g c = c.in_ok-begun.ensures.since
 
+pub returns-clause-named : goal.returns-clause-named
+returns-clause-named g c = c.in_ok-begun.ensures.whole.named
+
 pub returns-clause-empty : goal.returns-clause-empty
 returns-clause-empty g c = c.in_ok-begun.ensures.whole.empty
 

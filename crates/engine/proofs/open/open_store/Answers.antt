@@ -176,3 +176,8 @@ returns-in-Err-clause-loses_on g c ids f there m undamaged s =
     let goes = c.in-Err.ensures.stops k ids m undamaged rests in
     on_unlocked order old mid new (g.S.Store.facts c.unlock.new.self) goes.more there (lock.synced h) (c.in_ok-take_lock.ensures.noted h) goes.calls (c.in-Err.ensures.loses_on k ids m undamaged rests)
     (c.unlock.ensures.calls f) (c.unlock.ensures.same f) (c.unlock.ensures.synced f)
+
+-- ---- the logs that it found
+
+pub returns-in-Ok-clause-kept : goal.returns-in-Ok-clause-kept
+returns-in-Ok-clause-kept g c = c.in-Ok.ensures.kept
