@@ -69,9 +69,10 @@ class InDoubt(Exception):
 
 class Story:
     """The batches of a session, and how many of them were accepted at each moment. It begins over a folder that holds these pairs, up
-    to this sequence. Where commands may be refused, those that were count for nothing."""
+    to this sequence. Where commands may be refused, those that were count for nothing. Where opens keep what they find, the device has
+    that behind one that was accepted."""
 
-    def __init__(self, recording, history, pairs=None, sequence=0, may_refuse=False):
+    def __init__(self, recording, history, pairs=None, sequence=0, may_refuse=False, opens_keep=False):
         self.history, self.script = history, recording.script
         (want_certain if may_refuse else want_accepted)(recording)
         # at each moment, how many lines were answered
@@ -85,6 +86,9 @@ class Story:
         for number, (line, answer) in enumerate(zip(self.script, recording.answers)):
             if line.split(" ")[0] in WRITES and answer == "ok":
                 self.batches.append(self.batch(number, line))
+        # the lines behind which the device has all batches so far
+        answered = enumerate(zip(self.script, recording.answers))
+        self.keeping = [number for number, (line, answer) in answered if answer == "ok" and (is_synced(line) or opens_keep and line.startswith("open"))]
 
     def batch(self, number, line):
         pairs, sequence = self.state(len(self.batches))
@@ -109,11 +113,11 @@ class Story:
         return (self.batches[count - 1].pairs, self.batches[count - 1].sequence) if count else (self.pairs, self.sequence)
 
     def accepted(self, moment):
-        """How many batches were answered by then, how many up to the last that was synced, and whether another was under way."""
-        lines = self.answered[moment]
-        count = bisect.bisect_left([it.line for it in self.batches], lines)
-        synced = max((number for number, it in enumerate(self.batches[:count], 1) if is_synced(it.text)), default=0)
-        return count, synced, count < len(self.batches) and self.batches[count].line == lines
+        """How many batches were answered by then, how many of them the device has, and whether another was under way."""
+        lines, written = self.answered[moment], [it.line for it in self.batches]
+        count = bisect.bisect_left(written, lines)
+        kept = bisect.bisect_right(written, max((it for it in self.keeping if it < lines), default=-1))
+        return count, kept, count < len(self.batches) and self.batches[count].line == lines
 
 
 def want_accepted(recording):
@@ -165,7 +169,7 @@ def breach_of_stop(story, remains, found):
 
 
 def breach_of_loss(story, remains, found):
-    """All up to the last synced batch that was answered is there, and of what came behind it a beginning: no batch is gone while a later one is
-    there. (A MANIFEST that was synced may tell of sequences whose batches are lost.)"""
-    count, synced, is_under_way = story.accepted(remains.moment)
-    return breach(story, found, synced, count + is_under_way, operator.ge)
+    """All up to the last synced batch that was answered is there, or to the last open, where these keep what they find, and of what came behind it
+    a beginning: no batch is gone while a later one is there. (A MANIFEST that was synced may tell of sequences whose batches are lost.)"""
+    count, kept, is_under_way = story.accepted(remains.moment)
+    return breach(story, found, kept, count + is_under_way, operator.ge)

@@ -56,6 +56,7 @@ CASES = {
     "a log that is sealed": Case("--write-buffer 1", "open new; put 61 01; work 9; put 62 02; close", 0),
     "a log that an open keeps, behind a write with sync": Case("", "open new; put 61 01; close; open; write sync put 62 02; close", 5),
     "a log that an open keeps": Case("", "open new; put 61 01; close; open; put 62 02; close", 0),
+    "a log that an open keeps, behind the open": Case("--write-buffer 1", "open new; put 61 01; close; open; work 9; work 9; work 9; close", 4),
     "CURRENT at a first open, on a device to which names come in any order": Case("", "open new; close", 0, True),
     "CURRENT at an open, on a device to which names come in any order": Case("", "open new; write sync put 61 01; close; open; close", 3, True),
 }
