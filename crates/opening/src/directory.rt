@@ -26,6 +26,7 @@ pub struct CurrentLog {
     pub name: String,
     /// Its length in bytes, where the next record begins.
     pub end: u64,
-    /// The names of the live logs in front of it that the device may not have whole: the next write has it keep these first.
+    /// The names of the live logs in front of it that the device may not have whole: those that an open found, which has it keep them
+    /// before it ends, and those before a seal, which the next write has it keep first.
     pub front: Vec<String>,
 }
