@@ -82,8 +82,8 @@ pub record LeavesCut (order : Order) (facts : Facts) (lost : Files) : Type 0 whe
   pub cut : AreCut facts directory.logs logs
   pub left : IsConsistent order lost (record directory { logs = logs })
 
--- The logs that the open found are left as they are, until the first write behind it has had the device keep them. (What the device had before is known to who
--- wrote them.)
+-- Those of the logs that were there before the open are left as they are which the device isn't known to have whole. (An accepted open has it keep them all:
+-- HasKeptLogs.)
 abbrev pub LeavesFoundLogs : {K : Type 0} {g : _} → Files → Files → OpenDb K g → Type 0
 LeavesFoundLogs files lost db = (n : ℕ) → IsNumbered n → n < db.directory.manifest.number → Contains (map string_bytes db.log.front.items) (name_of (Log n))
     → get lost (name_of (Log n)) ≡ get files (name_of (Log n))

@@ -126,7 +126,7 @@ pub enum Stage {
     Over,
 }
 
-/// A walk over the pairs of a range. The database keeps an iterator for it until `Db::end_range` takes it back: it can't be dropped,
+/// A walk over the pairs of a range. The database keeps an iterator for it until `Db::range_end` takes it back: it can't be dropped,
 /// so that a program which forgets one isn't compiled.
 #[derive(Debug)]
 pub struct RangeWalk {

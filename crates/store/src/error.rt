@@ -14,7 +14,7 @@ pub enum StoreError {
     /// Out of memory. The call did nothing.
     #[error("out of memory")]
     Memory,
-    /// No file has this name. Only `len` and `read_at` answer so.
+    /// No file has this name. Only `len`, `read_at` and `read_into` answer so.
     #[error("there is no such file")]
     Missing,
     /// The device failed, and the store has counted it. A call that changes files may have been done in part.
