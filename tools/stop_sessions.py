@@ -41,6 +41,10 @@ REFUSED = {
 }  # fmt: skip
 
 
+# imports, each of lines by so many, of which all has to be kept by the device at their end: the options, and how many lines
+IMPORTS = [("--batch 2", 4), ("--batch 2", 5), ("--batch 1", 3), ("--batch 1 --write-buffer 1", 4), ("", 3), ("", 0)]
+
+
 @dataclass(frozen=True)
 class Case:
     """A session for one thing that a loss of power could do, from one of its lines on; and whether names come to the device in any order."""

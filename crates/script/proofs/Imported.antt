@@ -10,14 +10,14 @@ use Rattle.store.specs.Files.{Facts}
 use Rattle.ikey.specs.Orders.{Order}
 use Rattle.machine.specs.declared.command.Mode.TheVariants.{Any}
 use Rattle.machine.specs.declared.command.Op.{Op}
-use Rattle.machine.specs.declared.command.Op.TheVariants.{Open}
+use Rattle.machine.specs.declared.command.Op.TheVariants.{Open, Write, Work}
 use Rattle.machine.specs.declared.command.Answer.{Answer}
 use Rattle.machine.specs.declared.command.Answer.TheVariants.{Done, Refused}
 use Rattle.engine.specs.declared.session.Session.{Session}
 use Rattle.script.specs.Commands.{GoesOn, IsRefusal, AreGiven}
 use Rattle.script.specs.Drive.{lines_of, LeavesLines, TakesLine, AppendsFront}
 use Rattle.script.specs.Closing.{EndsClosed, TakesClosed}
-use Rattle.script.specs.Importing.{ImportValues, SaysOperation, SayOperations, IsPlan, all_written, all_taken, Takes, HasBadNext, EndsImport, HasTaken, WritesBatch, TakesOperation, TakesSome, StopsImport, report_of}
+use Rattle.script.specs.Importing.{ImportValues, SaysOperation, SayOperations, IsPlan, AreBatches, written_by, all_written, all_taken, Takes, HasBadNext, EndsImport, HasTaken, HasBegun, WritesBatch, MakesRoom, TakesOperation, TakesSome, StopsImport, report_of}
 use Rattle.script.proofs.Runs.{leaves_all, leaves_fewer, leaves_none}
 use Rattle.script.proofs.Written.{no_more}
 use Rattle.script.proofs.Going.{goes_then}
@@ -51,7 +51,7 @@ bad_next (Some bytes) (Some rest) next lines line h g none = (line, lines_of g.0
 
 -- ---- steps
 
-pub taken_none : {S K : Type 0} {g : _} (order : Order) (facts : S → Facts) (how : ImportValues) (old now : Session S K g) (script : Option (List ℕ))
+abbrev pub taken_none : {S K : Type 0} {g : _} (order : Order) (facts : S → Facts) (how : ImportValues) (old now : Session S K g) (script : Option (List ℕ))
     → GoesOn order facts old now (Open Any ∷ []) (Done ∷ []) → HasTaken order facts how old now script script [] 0
 taken_none order facts how old now script opened = record {
   lines = [];
@@ -206,12 +206,18 @@ ends_refused order facts how old now new script left waiting before after outcom
     ends_behind order facts how old now new script left waiting before after how.sync outcome h b false (later_of left) (first_lines script left h.lines h.leaves) (λ e. absurd (false≢true e))
     (h.batches ++ b.write ∷ b.work ∷ b.last ∷ [], refl, batches_then how.batch how.sync h.batches (b.write ∷ b.work ∷ b.last ∷ []) h.shape b.shape) (inr refused)
 
+-- what is written is what waited: one that writes nothing waited for nothing
+one_writes : (most : ℕ) (sync : Bool) (write work last : Op) (operations : List Operation) → AreBatches most sync (write ∷ work ∷ last ∷ []) → all_written (write ∷ work ∷ last ∷ []) ≡ operations
+    → written_by write ≡ [] → operations ≡ []
+one_writes most sync (Write written synced) (Work entries) (Work further) operations shape is none = sym is ∙ append-nil written.items ∙ none
+one_writes most sync _ _ _ operations shape is none = absurd shape
+
 pub ends_whole : {S K : Type 0} {g : _} (order : Order) (facts : S → Facts) (how : ImportValues) (old now new : Session S K g) (script left next : Option (List ℕ)) (waiting : List Operation) (before after : ℕ) (outcome : Answer) (line : List ℕ)
-    → HasTaken order facts how old now script left waiting before → TakesLine left next false line → WritesBatch order facts how.batch true now new waiting before after outcome
+    → HasBegun order facts how old now script left waiting before → TakesLine left next false line → WritesBatch order facts how.batch true now new waiting before after outcome
     → EndsImport order facts how old new script outcome after
-ends_whole order facts how old now new script left next waiting before after outcome line h none b =
+ends_whole order facts how old now new script left next waiting before after outcome line (h, one) none b =
     ends_behind order facts how old now new script left waiting before after true outcome h b true [] (all_lines script h.lines (leaves_none script left next h.lines line h.leaves none)) (λ e. refl)
-    (h.batches, b.write, b.work, b.last, refl, h.shape, b.shape) (elim b.given [
+    (h.batches, b.write, b.work, b.last, refl, h.shape, b.shape, λ nothing. one (one_writes how.batch true b.write b.work b.last waiting b.shape b.written nothing)) (elim b.given [
       | inl all ↦ inl (all.0, refl, b.whole all.0)
       | inr some ↦ inr some.0
     ])
@@ -248,59 +254,49 @@ ends_unopened order facts how old new script refused is ran = record {
     no_operations Done = refl
     no_operations _ = refl
 
+-- ---- room for a line's operation
+
+given_well : {plan commands : List Op} {answers : List Answer} {outcome : Answer} → AreGiven plan commands answers outcome → (IsRefusal outcome → ⊥) → outcome ≡ Done
+given_well (inl all) well = all.0
+given_well (inr some) well = absurd (well some.0)
+
+pub room_ends : {S K : Type 0} {g : _} (order : Order) (facts : S → Facts) (how : ImportValues) (old now new : Session S K g) (script left : Option (List ℕ)) (waiting still : List Operation) (before after : ℕ) (outcome : Answer)
+    → HasTaken order facts how old now script left waiting before → MakesRoom order facts how now new waiting still before after outcome → IsRefusal outcome
+    → EndsImport order facts how old new script outcome after
+room_ends order facts how old now new script left waiting still before after outcome h (inl waits) refused = absurd (done_is_none outcome waits.0 refused)
+room_ends order facts how old now new script left waiting still before after outcome h (inr batch) refused = ends_refused order facts how old now new script left waiting before after outcome h batch.1 refused
+
+pub room_goes_on : {S K : Type 0} {g : _} (order : Order) (facts : S → Facts) (how : ImportValues) (old now new : Session S K g) (script left : Option (List ℕ)) (waiting still : List Operation) (before after : ℕ) (outcome : Answer)
+    → HasTaken order facts how old now script left waiting before → MakesRoom order facts how now new waiting still before after outcome → (IsRefusal outcome → ⊥)
+    → HasTaken order facts how old new script left still after
+room_goes_on {S} {K} {g} order facts how old now new script left waiting still before after outcome h (inl waits) well =
+    subst (λ (os : List Operation). HasTaken order facts how old new script left os after) (sym waits.1)
+    (subst (λ (s : Session S K g). HasTaken order facts how old s script left waiting after) (sym waits.2)
+    (subst (λ (n : ℕ). HasTaken order facts how old now script left waiting n) (sym waits.3) h))
+room_goes_on order facts how old now new script left waiting still before after outcome h (inr batch) well =
+    subst (λ (os : List Operation). HasTaken order facts how old new script left os after) (sym batch.0)
+    (taken_batch order facts how old now new script left waiting before after h
+    (subst (λ (o : Answer). WritesBatch order facts how.batch how.sync now new waiting before after o) (given_well batch.1.given well) batch.1))
+
 -- ---- a line
 
-pub line_ends : {S K : Type 0} {g : _} (order : Order) (facts : S → Facts) (how : ImportValues) (old now new : Session S K g) (script left next : Option (List ℕ)) (waiting still : List Operation) (before after : ℕ) (line : List ℕ) (outcome : Answer)
-    → HasTaken order facts how old now script left waiting before → TakesLine left next true line → TakesOperation order facts how now new line waiting still before after outcome → IsRefusal outcome
-    → EndsImport order facts how old new script outcome after
-line_ends {S} {K} {g} order facts how old now new script left next waiting still before after line outcome h takes (inl bad) refused =
-    subst (λ (o : Answer). EndsImport order facts how old new script o after) (sym bad.0)
-    (subst (λ (s : Session S K g). EndsImport order facts how old s script (Refused BadLine) after) (sym bad.2)
-    (subst (λ (n : ℕ). EndsImport order facts how old now script (Refused BadLine) n) (sym bad.3)
-    (ends_at_bad order facts how old now script left next waiting before line h takes bad.1)))
-line_ends order facts how old now new script left next waiting still before after line outcome h takes (inr good) refused = elim good.2 [
-  | inl waits ↦ absurd (done_is_none outcome waits.0 refused)
-  | inr batch ↦
-      ends_refused order facts how old now new script next (waiting ++ good.0 ∷ []) before after outcome
-      (taken_waits order facts how old now script left next waiting before line good.0 h takes good.1) batch.1 refused
-]
+one_waits : (waiting : List Operation) (operation : Operation) → waiting ++ operation ∷ [] ≡ [] → ⊥
+one_waits waiting operation none = let e : length (waiting ++ operation ∷ []) ≡ 0 = ap length none in omega (arith, e, length-append waiting (operation ∷ []))
 
-refused_is_one : (outcome : Answer) → outcome ≡ Refused BadLine → IsRefusal outcome
-refused_is_one outcome is = subst IsRefusal (sym is) tt
+pub line_waits : {S K : Type 0} {g : _} (order : Order) (facts : S → Facts) (how : ImportValues) (old now : Session S K g) (script left next : Option (List ℕ)) (waiting still : List Operation) (count : ℕ) (line : List ℕ)
+    → HasTaken order facts how old now script left waiting count → TakesLine left next true line → TakesOperation line waiting still true
+    → HasBegun order facts how old now script next still count
+line_waits order facts how old now script left next waiting still count line h takes (operation, says, is) =
+    subst (λ (os : List Operation). HasBegun order facts how old now script next os count) (sym is)
+    (taken_waits order facts how old now script left next waiting count line operation h takes says, λ none. absurd (one_waits waiting operation none))
 
-pub line_goes_on : {S K : Type 0} {g : _} (order : Order) (facts : S → Facts) (how : ImportValues) (old now new : Session S K g) (script left next : Option (List ℕ)) (waiting still : List Operation) (before after : ℕ) (line : List ℕ) (outcome : Answer)
-    → HasTaken order facts how old now script left waiting before → TakesLine left next true line → TakesOperation order facts how now new line waiting still before after outcome → (IsRefusal outcome → ⊥)
-    → HasTaken order facts how old new script next still after
-line_goes_on order facts how old now new script left next waiting still before after line outcome h takes (inl bad) well = absurd (well (refused_is_one outcome bad.0))
-line_goes_on {S} {K} {g} order facts how old now new script left next waiting still before after line outcome h takes (inr good) well =
-    let more = taken_waits order facts how old now script left next waiting before line good.0 h takes good.1 in
-    elim good.2 [
-      | inl waits ↦
-          subst (λ (os : List Operation). HasTaken order facts how old new script next os after) (sym waits.1)
-          (subst (λ (s : Session S K g). HasTaken order facts how old s script next (waiting ++ good.0 ∷ []) after) (sym waits.3)
-          (subst (λ (n : ℕ). HasTaken order facts how old now script next (waiting ++ good.0 ∷ []) n) (sym waits.4) more))
-      | inr batch ↦
-          subst (λ (os : List Operation). HasTaken order facts how old new script next os after) (sym batch.0)
-          (taken_batch order facts how old now new script next (waiting ++ good.0 ∷ []) before after more
-          (subst (λ (o : Answer). WritesBatch order facts how.batch how.sync now new (waiting ++ good.0 ∷ []) before after o) (given_well batch.1.given well) batch.1))
-    ]
-  where
-    given_well : {plan commands : List Op} {answers : List Answer} {outcome : Answer} → AreGiven plan commands answers outcome → (IsRefusal outcome → ⊥) → outcome ≡ Done
-    given_well (inl all) well = all.0
-    given_well (inr some) well = absurd (well some.0)
-
-pub line_room : {S K : Type 0} {g : _} (order : Order) (facts : S → Facts) (how : ImportValues) (now new : Session S K g) (waiting still : List Operation) (before after : ℕ) (line : List ℕ) (outcome : Answer)
-    → TakesOperation order facts how now new line waiting still before after outcome → (IsRefusal outcome → ⊥) → 1 ≤ how.batch → length still < how.batch
-line_room order facts how now new waiting still before after line outcome (inl bad) well some = absurd (well (refused_is_one outcome bad.0))
-line_room order facts how now new waiting still before after line outcome (inr good) well some = elim good.2 [
-  | inl waits ↦ waits.2
-  | inr batch ↦ let none : length still ≡ 0 = ap length batch.0 in omega (arith, none, some)
-]
+pub line_long : (line : List ℕ) (waiting still : List Operation) (most : ℕ) → TakesOperation line waiting still true → length waiting < most → length still ≤ most
+line_long line waiting still most (operation, says, is) room = let e : length still ≡ length (waiting ++ operation ∷ []) = ap length is in omega (arith, e, length-append waiting (operation ∷ []), room)
 
 -- what the lines behind the open lead to
 abbrev pub Carries : {S K : Type 0} {g : _} → Order → (S → Facts) → ImportValues → Session S K g → Session S K g → Option (List ℕ) → Option (List ℕ) → ℕ → List Operation → ℕ → Type 0
 Carries {S} {K} {g} order facts how first now start left before waiting count =
-    (old : Session S K g) (script : Option (List ℕ)) → HasTaken order facts how old first script start [] before → HasTaken order facts how old now script left waiting count
+    (old : Session S K g) (script : Option (List ℕ)) → HasBegun order facts how old first script start [] before → HasBegun order facts how old now script left waiting count
 
 -- the session is as it was
 pub stops_still : {S K : Type 0} {g : _} (order : Order) (facts : S → Facts) (how : ImportValues) (old now new : Session S K g) (script left : Option (List ℕ)) (waiting : List Operation) (count : ℕ)

@@ -46,18 +46,19 @@ AreBatches most sync (Write operations synced ∷ Work entries ∷ Work last ∷
     (length operations.items ≤ most) × (synced ≡ sync) × (entries ≡ 6 * length operations.items) × (last ≡ 1) × AreBatches most sync commands
 AreBatches most sync _ = ⊥
 
--- An open and batches; behind all lines one more, which is synced.
-abbrev pub IsPlan : ImportValues → Bool → List Op → Type 0
-IsPlan how false plan = (batches : List Op) × (plan ≡ Open Any ∷ batches) × AreBatches how.batch how.sync batches
-IsPlan how true plan =
-    (batches : List Op) × (write work last : Op) × (plan ≡ Open Any ∷ batches ++ write ∷ work ∷ last ∷ [])
-    × AreBatches how.batch how.sync batches × AreBatches how.batch true (write ∷ work ∷ last ∷ [])
-
 -- the operations that a command writes
 abbrev pub written_by : Op → List Operation
 written_by (Write operations sync) = operations.items
 written_by _ = []
 
+-- An open and batches; behind all lines one more, which is synced, and which has operations wherever a line had one.
+abbrev pub IsPlan : ImportValues → Bool → List Op → Type 0
+IsPlan how false plan = (batches : List Op) × (plan ≡ Open Any ∷ batches) × AreBatches how.batch how.sync batches
+IsPlan how true plan =
+    (batches : List Op) × (write work last : Op) × (plan ≡ Open Any ∷ batches ++ write ∷ work ∷ last ∷ [])
+    × AreBatches how.batch how.sync batches × AreBatches how.batch true (write ∷ work ∷ last ∷ []) × (written_by write ≡ [] → batches ≡ [])
+
+-- what these commands write
 abbrev pub all_written : List Op → List Operation
 all_written [] = []
 all_written (command ∷ commands) = written_by command ++ all_written commands
@@ -159,6 +160,10 @@ pub record HasTaken {S K : Type 0} {g : _} (order : Order) (facts : S → Facts)
   pub ran : GoesOn order facts old now (Open Any ∷ batches) answers
   pub counted : count ≡ length (all_written batches)
 
+-- A full batch waits for the line behind it: if nothing waits, no batch was written.
+abbrev pub HasBegun : {S K : Type 0} {g : _} → Order → (S → Facts) → ImportValues → Session S K g → Session S K g → Option (List ℕ) → Option (List ℕ) → List Operation → ℕ → Type 0
+HasBegun order facts how old now script left waiting count = (taken : HasTaken order facts how old now script left waiting count) × (waiting ≡ [] → taken.batches ≡ [])
+
 -- A batch was given, and the work behind it, up to the first of the three that was refused.
 pub record WritesBatch {S K : Type 0} {g : _} (order : Order) (facts : S → Facts) (most : ℕ) (sync : Bool) (old new : Session S K g) (operations : List Operation) (before after : ℕ) (outcome : Answer) : Type 0 where
   pub write : Op
@@ -180,13 +185,16 @@ abbrev pub WorksBehind : {S K : Type 0} {g : _} → Order → (S → Facts) → 
 WorksBehind order facts entries old new outcome =
     (commands : List Op) × (answers : List Answer) × AreGiven (Work entries ∷ Work 1 ∷ []) commands answers outcome × GoesOn order facts old new commands answers
 
--- A line says no operation; or its operation waits now; or it was written with those that waited.
-abbrev pub TakesOperation : {S K : Type 0} {g : _} → Order → (S → Facts) → ImportValues → Session S K g → Session S K g → List ℕ → List Operation → List Operation → ℕ → ℕ → Answer → Type 0
-TakesOperation order facts how old new line waiting still before after outcome =
-    ((outcome ≡ Refused BadLine) × ((operation : Operation) → SaysOperation line operation → ⊥) × (new ≡ old) × (after ≡ before))
-    ⊎ ((operation : Operation) × SaysOperation line operation
-    × (((outcome ≡ Done) × (still ≡ waiting ++ operation ∷ []) × (length still < how.batch) × (new ≡ old) × (after ≡ before))
-    ⊎ ((still ≡ []) × WritesBatch order facts how.batch how.sync old new (waiting ++ operation ∷ []) before after outcome)))
+-- There was room for an operation more; or what waited was written.
+abbrev pub MakesRoom : {S K : Type 0} {g : _} → Order → (S → Facts) → ImportValues → Session S K g → Session S K g → List Operation → List Operation → ℕ → ℕ → Answer → Type 0
+MakesRoom order facts how old new waiting still before after outcome =
+    ((outcome ≡ Done) × (still ≡ waiting) × (new ≡ old) × (after ≡ before))
+    ⊎ ((still ≡ []) × WritesBatch order facts how.batch how.sync old new waiting before after outcome)
+
+-- The line's operation waits behind the others; or it says none.
+abbrev pub TakesOperation : List ℕ → List Operation → List Operation → Bool → Type 0
+TakesOperation line waiting still true = (operation : Operation) × SaysOperation line operation × (still ≡ waiting ++ operation ∷ [])
+TakesOperation line waiting still false = (operation : Operation) → SaysOperation line operation → ⊥
 
 -- some first lines were imported
 abbrev pub TakesSome : {S K : Type 0} {g : _} → Order → (S → Facts) → ImportValues → Session S K g → Session S K g → Option (List ℕ) → Type 0
@@ -195,8 +203,8 @@ TakesSome order facts how old new script = (all : Bool) × (ended : Answer) × T
 -- The lines that are left are imported behind those that were taken before; to an end, or not to one.
 abbrev pub EndsRest : {S K : Type 0} {g : _} → Order → (S → Facts) → ImportValues → Session S K g → Session S K g → Option (List ℕ) → ℕ → ℕ → Answer → Type 0
 EndsRest {S} {K} {g} order facts how now new left before after outcome =
-    (old : Session S K g) (script : Option (List ℕ)) → HasTaken order facts how old now script left [] before → EndsImport order facts how old new script outcome after
+    (old : Session S K g) (script : Option (List ℕ)) → HasBegun order facts how old now script left [] before → EndsImport order facts how old new script outcome after
 
 abbrev pub TakesRest : {S K : Type 0} {g : _} → Order → (S → Facts) → ImportValues → Session S K g → Session S K g → Option (List ℕ) → ℕ → Type 0
 TakesRest {S} {K} {g} order facts how now new left before =
-    (old : Session S K g) (script : Option (List ℕ)) → HasTaken order facts how old now script left [] before → TakesSome order facts how old new script
+    (old : Session S K g) (script : Option (List ℕ)) → HasBegun order facts how old now script left [] before → TakesSome order facts how old new script

@@ -9,7 +9,7 @@ use std::marker::Model;
 const MOST_OPERATIONS: u64 = 65_536;
 
 /// How many operations are written as one batch at most, 1 to 65,536, and whether the device is to keep each batch before the
-/// next one. (The last one it keeps in any case.)
+/// next one. (The last one it keeps in any case, and all before it.)
 #[derive(Clone, Copy, Debug, PartialEq, Eq)]
 pub struct Importing {
     batch: usize,

@@ -9,7 +9,7 @@ ghost use Rattle.machine.specs.declared.command.Answer.TheVariants.{Done};
 ghost use Rattle.engine.specs.Applied.{IsShut};
 ghost use Rattle.script.specs.Commands.{GoesOn, IsRefusal};
 ghost use Rattle.script.specs.Closing.{EndsClosed, TakesClosed};
-ghost use Rattle.script.specs.Importing.{EndsImport, EndsRest, Imports, StopsImport, TakesOperation, TakesRest, TakesSome, WorksBehind, WritesBatch};
+ghost use Rattle.script.specs.Importing.{EndsImport, EndsRest, Imports, MakesRoom, StopsImport, TakesOperation, TakesRest, TakesSome, WorksBehind, WritesBatch};
 ghost use Rattle.script.specs.Importing.{refusal_line, report_of};
 
 use crate::answer::push_with_number;
@@ -36,8 +36,9 @@ const INPUT_BYTES: usize = 65_536;
 pub const WORK_PER_OPERATION: u32 = 6;
 
 /// Imports lines, each a `put` with a key and a value or a `del` with a key, into the database that is there, or into a new one.
-/// They are written as batches, each when it has as many operations as it may have, or 1 MiB of keys and values, and behind each
-/// one work is done. What is left at the end of the lines is written too, and kept by the device, before the database is closed.
+/// They are written as batches, each once it has as many operations as it may have, or 1 MiB of keys and values, and a line more comes;
+/// behind each one work is done. What waits at the end of the lines is written too, and the device has all of it before the database
+/// is closed: a full batch waits, so that the last one, which is written with sync, is never without operations.
 ///
 /// The first command that is refused ends it, and so does a line that is none of the two, as `BadLine`; what waits isn't written
 /// then, and a database that is open is closed. Writes the line of the refusal, if there was one, and `taken` with the number of
@@ -145,55 +146,51 @@ fn take_lines<S: Store, K: KeyOrder, R: Read, L: Listener>(
             tell_of_answer(listener, None, &last, session.store());
             return Ok(last);
         }
+        // (a full batch is written only now: had this been the last line, it would be the one with sync)
+        let made = make_room(alloc, session, how, &mut gathered, taken)?;
+        if is_refusal(&made) {
+            tell_of_answer(listener, Some(number), &made, session.store());
+            return Ok(made);
+        }
         number = number.saturating_add(1);
-        let ended = take_line(alloc, session, how, line.as_slice(), &mut gathered, taken)?;
-        if is_refusal(&ended) {
-            tell_of_line(listener, number, line.as_slice(), &ended, session.store());
-            return Ok(ended);
+        if !take_line(alloc, line.as_slice(), &mut gathered)? {
+            tell_of_bad_line(listener, number, misread_operation_line(line.as_slice()));
+            return Ok(Answer::Refused(DbError::BadLine));
         }
     }
     Err(Fault::Memory)
 }
 
-// Tells why no line behind this one is taken.
-fn tell_of_line<L: Listener, S: Store>(
-    listener: &mut L,
-    number: u64,
-    line: &[u8],
-    ended: &Answer,
-    store: &S,
-) {
-    match ended {
-        Answer::Refused(DbError::BadLine) => {
-            tell_of_bad_line(listener, number, misread_operation_line(line));
-        }
-        _ => tell_of_answer(listener, Some(number), ended, store),
-    }
-}
-
-// Takes a line: `Done`, or why no more are taken.
-fn take_line<S: Store, K: KeyOrder>(
+// Writes what waits, if it is a whole batch: `Done`, or why no more is taken.
+fn make_room<S: Store, K: KeyOrder>(
     alloc: Global,
     session: &mut Session<S, K>,
     how: &Importing,
-    line: &[u8],
     gathered: &mut Gathered,
     taken: &mut u64,
 ) -> Result<Answer, AllocError>
-    requires few { length gathered.old.operations.items < how.now.batch }
-    ensures ok { IfOk result (λ outcome. TakesOperation (order_of K.name K.cmp) S.facts how.now session.old session.new line.now
+    requires few { length gathered.old.operations.items ≤ how.now.batch }
+    ensures ok { IfOk result (λ outcome. MakesRoom (order_of K.name K.cmp) S.facts how.now session.old session.new
         gathered.old.operations.items gathered.new.operations.items taken.old taken.new outcome) }
+    ensures room { OnOk result (length gathered.new.operations.items < how.now.batch) }
     ensures err { OnErr result (session.new ≡ session.old) }
 {
-    let Some(operation) = read_operation_line(alloc, line)? else {
-        return Ok(Answer::Refused(DbError::BadLine));
-    };
-    gathered.push(operation)?;
     if !gathered.is_full(how.batch()) {
         return Ok(Answer::Done);
     }
-    let ended = write_gathered(alloc, session, how, gathered, how.sync(), taken)?;
-    Ok(ended)
+    let made = write_gathered(alloc, session, how, gathered, how.sync(), taken)?;
+    Ok(made)
+}
+
+// Has a line's operation wait behind the others. Whether it says one.
+fn take_line(alloc: Global, line: &[u8], gathered: &mut Gathered) -> Result<bool, AllocError>
+    ensures { IfOk result (λ says. TakesOperation line.now gathered.old.operations.items gathered.new.operations.items says) }
+{
+    let Some(operation) = read_operation_line(alloc, line)? else {
+        return Ok(false);
+    };
+    gathered.push(operation)?;
+    Ok(true)
 }
 
 // Writes what waits as one batch, and does work behind it: `Done`, or the refusal that ended it. Where there is no memory,
@@ -227,8 +224,8 @@ fn write_gathered<S: Store, K: KeyOrder>(
     Ok(work_behind_batch(alloc, session, entries))
 }
 
-// Does the work behind a batch: so many entries, and one more, which writes the table of a memory table that these have sealed. The
-// next batch would have the device keep its log otherwise. `Done`, or the first refusal.
+// Does the work behind a batch: so many entries, and one more, which writes the table of a memory table that these have sealed (but for one that
+// it seals itself, behind a compaction's end). The next batch would have the device keep its log otherwise. `Done`, or the first refusal.
 fn work_behind_batch<S: Store, K: KeyOrder>(
     alloc: Global,
     session: &mut Session<S, K>,

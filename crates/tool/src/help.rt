@@ -183,8 +183,8 @@ K and V are bytes in hexadecimal, as 6b6579, or - for none. Where DIR has no
 database one is made. The lines are written in batches of --batch operations,
 fewer where their keys and values have 1 MiB or more, each whole or not at all;
 behind each comes work, six entries for each of its operations and one more;
-what is left to merge then, `ldbtool compact` does. At the end the device has
-kept everything. What was done is told by a line
+what is left to merge then, `ldbtool compact` does. Where every line was taken
+the device has kept everything. What was done is told by a line
 
   taken N                             so many of the first lines are in the database
 
@@ -212,9 +212,9 @@ pub const LEVEL: &str = "Merge this level's tables into the next, from 0 to 5; e
 
 pub const MERGED: &str = "\
 It opens the database, merges, works until there is nothing to do, and closes.
-Then what is overwritten or deleted takes no room any more, and files of no more
-use are gone. `ok` is printed, or the refusal that ended it. Without --level
-what is in memory and in logs goes into tables too.
+Then files of no more use are gone; without --level what is in memory and in
+logs goes into tables too, and what is overwritten or deleted takes no room any
+more. `ok` is printed, or the refusal that ended it.
 
 Exit status:
   0  it was merged

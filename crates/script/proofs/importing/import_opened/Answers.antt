@@ -1,7 +1,7 @@
-use Rattle.std.proofs.Common.{[], ℕ, List, sym, subst}
+use Rattle.std.proofs.Common.{[], ℕ, List, refl, sym, subst}
 use Rattle.std.specs.Prelude.{Option}
 use Rattle.ikey.specs.Orders.{order_of}
-use Rattle.script.specs.Importing.{EndsImport, HasTaken}
+use Rattle.script.specs.Importing.{EndsImport, HasBegun}
 use Rattle.script.proofs.Written.{on_err, fresh_reader}
 use Rattle.script.proofs.Imported.{ends_unopened, stops, taken_none}
 use Rattle.script.proofs.importing.import_opened.Goals as goal
@@ -28,8 +28,8 @@ returns-in_err-ended-clause-stopped g c =
     let how = c.args.how.now in
     let script = g.R.Read.remaining c.args.reader in
     let opened = c.open_any.new.session in
-    let counted = subst (λ (count : ℕ). HasTaken order facts how c.args.session.now opened script script [] count) (sym c.requires.none) (taken_none order facts how c.args.session.now opened script c.in-None.ensures) in
-    let start = subst (λ (left : Option (List ℕ)). HasTaken order facts how c.args.session.now opened script left [] c.args.taken.now)
+    let counted = subst (λ (count : ℕ). HasBegun order facts how c.args.session.now opened script script [] count) (sym c.requires.none) (taken_none order facts how c.args.session.now opened script c.in-None.ensures, λ none. refl) in
+    let start = subst (λ (left : Option (List ℕ)). HasBegun order facts how c.args.session.now opened script left [] c.args.taken.now)
     (sym (fresh_reader g.R.Read.remaining c.in-Ok.input c.args.reader c.in-Ok.ensures.inner c.in-Ok.ensures.empty c.in-Ok.ensures.capacity)) counted in
     on_err c.from_residual.result _ (c.in_err-ended.ensures.stopped c.args.session.now script start)
 
@@ -40,7 +40,7 @@ returns-clause-ended g c =
     let how = c.args.how.now in
     let script = g.R.Read.remaining c.args.reader in
     let opened = c.open_any.new.session in
-    let counted = subst (λ (count : ℕ). HasTaken order facts how c.args.session.now opened script script [] count) (sym c.requires.none) (taken_none order facts how c.args.session.now opened script c.in-None.ensures) in
-    let start = subst (λ (left : Option (List ℕ)). HasTaken order facts how c.args.session.now opened script left [] c.args.taken.now)
+    let counted = subst (λ (count : ℕ). HasBegun order facts how c.args.session.now opened script script [] count) (sym c.requires.none) (taken_none order facts how c.args.session.now opened script c.in-None.ensures, λ none. refl) in
+    let start = subst (λ (left : Option (List ℕ)). HasBegun order facts how c.args.session.now opened script left [] c.args.taken.now)
     (sym (fresh_reader g.R.Read.remaining c.in-Ok.input c.args.reader c.in-Ok.ensures.inner c.in-Ok.ensures.empty c.in-Ok.ensures.capacity)) counted in
     c.in_ok-ended.ensures.ended c.args.session.now script start
