@@ -246,6 +246,15 @@ def each_file(room):
         want(len(said), len(wanted), f"the lines of the files: {said}")
 
 
+@check("a refusal of the work that --work auto brings has no answer, and is said with the line that brought it")
+def work_behind_lines(room):
+    folder = write_directory(room, "folder", None, tables({5: CHANGED, 6: ONE_TABLE}, level=0))
+    ran = ldbtool("run", "--work", "auto", "--level0-files", "1", folder, script=lines("open", "put 62 32", "get 62"))
+    want(ran.stdout, lines("ok", "ok", "value 32"), "the answers")
+    want(where(ran, folder), [f"000005.ldb: block at 0: {sums(masked(CHANGED[:22]), ONE_TABLE[22:26])}"], "where it comes from")
+    want(b"ldbtool: line 2: refused 5 Corrupt" in ran.stderr, True, f"the line: {ran.stderr}")
+
+
 @check("what was noted of an earlier refusal is not said of a later one")
 def earlier_notes(room):
     folder = write_directory(room, "folder", None, one(CHANGED))

@@ -18,7 +18,8 @@ pub struct Refusal {
 
 /// Who is told of refusals as they are answered. What it does with them changes no answer.
 pub trait Listener {
-    /// Told of each refusal, in their order, with the note that the store took last: it may be of an earlier refusal, or of none.
+    /// Told of each refusal, in their order, with the note that the store took last: it may be of an earlier refusal, or of none. A refusal of
+    /// the work that a line brought along comes behind that of the line, under the line's number.
     fn refused(&mut self, refusal: &Refusal, noted: Trouble);
 }
 

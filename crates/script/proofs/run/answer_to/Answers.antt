@@ -34,10 +34,10 @@ returns-in_err-push_answer-in-None-clause-stopped g c =
 pub returns-in_ok-push_answer-in-Some-clause-done : goal.returns-in_ok-push_answer-in-Some-clause-done
 returns-in_ok-push_answer-in-Some-clause-done g c =
     let says = rw c.in-Some.is at c.in_ok-read_line.ensures in
-    let brought = c.work_behind.ensures c.give-answer.ensures.outcome.allowed in (
+    let brought = c.work_behind-worked.ensures c.give-answer.ensures.outcome.allowed in (
       Some c.in-Some.command ∷ [],
       c.give-answer.result ∷ [],
-      answered_one c.args.way (order_of g.K.KeyOrder.name g.K.KeyOrder.cmp) g.S.Store.facts c.args.session.now c.give-answer.new.session c.work_behind.new.session c.args.line.now c.in-Some.command c.give-answer.result
+      answered_one c.args.way (order_of g.K.KeyOrder.name g.K.KeyOrder.cmp) g.S.Store.facts c.args.session.now c.give-answer.new.session c.work_behind-worked.new.session c.args.line.now c.in-Some.command c.give-answer.result
           says c.give-answer.ensures brought,
       c.in_ok-push_answer-in-Some.ensures.ok,
       one_goes c.args.way.strict c.goes_on.result c.give-answer.result c.goes_on.ensures.exact,
@@ -46,13 +46,13 @@ returns-in_ok-push_answer-in-Some-clause-done g c =
 pub returns-in_err-push_answer-in-Some-clause-stopped : goal.returns-in_err-push_answer-in-Some-clause-stopped
 returns-in_err-push_answer-in-Some-clause-stopped g c =
     let says = rw c.in-Some.is at c.in_ok-read_line.ensures in
-    let brought = c.work_behind.ensures c.give-answer.ensures.outcome.allowed in
+    let brought = c.work_behind-worked.ensures c.give-answer.ensures.outcome.allowed in
     on_err c.from_residual-in_err-push_answer-in-Some.result _ (
       c.args.line.now ∷ [],
       Some c.in-Some.command ∷ [],
       c.give-answer.result ∷ [],
       inr refl,
-      answered_one c.args.way (order_of g.K.KeyOrder.name g.K.KeyOrder.cmp) g.S.Store.facts c.args.session.now c.give-answer.new.session c.work_behind.new.session c.args.line.now c.in-Some.command c.give-answer.result
+      answered_one c.args.way (order_of g.K.KeyOrder.name g.K.KeyOrder.cmp) g.S.Store.facts c.args.session.now c.give-answer.new.session c.work_behind-worked.new.session c.args.line.now c.in-Some.command c.give-answer.result
           says c.give-answer.ensures brought,
       c.in_err-push_answer-in-Some.ensures.err,
     )
