@@ -19,6 +19,7 @@ use Rattle.tool.specs.Reports.{check_text_of, origins_of_summary, status_of_answ
 
 -- what a check answers: the directory's report, or why it is refused
 pub record IsChecked (order : Order) (old new : Facts) (answer : Result Report DbError) : Type 0 where
+  pub reads : ReadsDirectory old new answer
   pub found : IfOk answer (λ report. IsTrue new.faithful → IsReport order old.files report)
   pub refused : IfErr answer (λ error. RefusesDirectory error old new ((IsEmpty old.files → ⊥) × IsInconsistent order old.files) ((IsEmpty old.files → ⊥) × PassesLimit order old.files))
   pub still : IsStill old new answer

@@ -8,7 +8,7 @@ use Rattle.engine.specs.OptionValues.{default_values}
 use Rattle.ikey.specs.Orders.{Order}
 use Rattle.recover.specs.Directory.{IsEmpty}
 use Rattle.recover.specs.Overviews.{IsOverview}
-use Rattle.recover.specs.Reading.{HasNoManifest, IsBeyondReading, IsCounted, RefusesDirectory}
+use Rattle.recover.specs.Reading.{HasNoManifest, IsBeyondReading, IsCounted, ReadsDirectory, RefusesDirectory}
 use Rattle.recover.specs.declared.overview.LogLength.{LogLength}
 use Rattle.recover.specs.declared.overview.Overview.{Overview}
 use Rattle.store.specs.Files.{Facts}
@@ -75,6 +75,7 @@ pub record PrintsOverview (comparator : List ℕ) (json : Bool) (overview : Over
 
 -- what the directory answers, without its tables and logs being read
 pub record IsLookedOver (order : Order) (old new : Facts) (answer : Result (Option Overview) DbError) : Type 0 where
+  pub reads : ReadsDirectory old new answer
   pub found : IfOk answer (λ found. IsTrue new.faithful → IsOverview order old.files found)
   pub refused : IfErr answer (λ error. RefusesDirectory error old new ((IsEmpty old.files → ⊥) × HasNoManifest order old.files) (IsBeyondReading order old.files))
   pub counted : IsCounted old new answer
