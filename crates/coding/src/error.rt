@@ -53,7 +53,7 @@ pub enum Feature {
     BlockSize,
     /// A table whose number is 2^62 or more.
     TableNumber,
-    /// A table at all. Nothing here answers it: it is for a reader of one's own that takes logs alone.
+    /// A table at all. Nothing answers it any more: it is from before the database read tables.
     Tables,
 }
 
