@@ -7,6 +7,7 @@ pub mod Keys
 pub mod InLevels
 pub mod Positions
 pub mod Pairs
+pub mod OwnNumbers
 pub mod Puts
 pub mod Runs
 pub mod Sets

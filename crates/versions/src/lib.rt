@@ -9,6 +9,7 @@ mod key_range;
 mod laws;
 mod level_uses;
 mod live;
+mod numbers;
 mod ordering;
 mod plan;
 mod planning;

@@ -1,16 +1,17 @@
 //! The order of a version's tables.
 
-ghost use Rattle.std.specs.Prelude.{◌≡◌, ◌<◌, ◌≤◌, length, IfErr, OnOk, MatchBool, HoldsAt, [], ◌++◌};
+ghost use Rattle.std.specs.Prelude.{◌≡◌, ◌≢◌, ◌<◌, ◌≤◌, false, length, AllPairs, IfOk, IfErr, OnOk, MatchBool, HoldsAt, [], ◌++◌};
 ghost use Rattle.std.specs.List.{AllWithin};
 ghost use Rattle.coding.specs.Errors.{RefusesOnly};
 ghost use Rattle.edits.specs.Layout.{is_used};
 ghost use Rattle.versions.specs.Levels.{IsRange, StandsBefore, AreInOrder, AreTablesApart, ListsSameTables};
 ghost use Rattle.versions.specs.Steps.{Fits, IsPut};
 
+use crate::numbers::{are_distinct, numbers_of};
 use coding::{Damage, ReadError};
 use edits::{LEVELS, PlacedTable, copy_of};
 use ikey::{EntryOrder, Internal, KeyOrder};
-use std::alloc::Global;
+use std::alloc::{AllocError, Global};
 
 // Whether the table comes before the other.
 fn comes_before<K: KeyOrder>(a: &PlacedTable, b: &PlacedTable) -> bool
@@ -80,7 +81,7 @@ fn ends_before<K: KeyOrder>(tables: &[PlacedTable], place: usize, new: &PlacedTa
     }
 }
 
-/// Puts a table in its place. Corrupt: there is no such level, its keys are no range, its number is that of another one, or it overlaps
+/// Puts a table in its place. Corrupt: its number is that of another one, there is no such level, its keys are no range, or it overlaps
 /// one in a level below 0.
 pub fn put_table<K: KeyOrder>(
     tables: &mut Vec<PlacedTable>,
@@ -90,11 +91,21 @@ pub fn put_table<K: KeyOrder>(
     ensures done { OnOk result (IsPut K.cmp tables.old.items new tables.new.items) }
     ensures refused { IfErr result (λ e. RefusesOnly e (Fits K.cmp tables.old.items new → ⊥)) }
 {
-    if new.level >= LEVELS || !has_range::<K>(&new) {
-        return Err(ReadError::Corrupt(Damage::Number));
-    }
     if is_number_used(tables, new.table.number) {
         return Err(ReadError::Corrupt(Damage::Order));
+    }
+    put_fresh::<K>(tables, new)
+}
+
+// The same of a table whose number none of the others has.
+fn put_fresh<K: KeyOrder>(tables: &mut Vec<PlacedTable>, new: PlacedTable) -> Result<(), ReadError>
+    requires order { AreInOrder K.cmp tables.old.items }
+    requires fresh { is_used new.table.number tables.old.items ≡ false }
+    ensures done { OnOk result (IsPut K.cmp tables.old.items new tables.new.items) }
+    ensures refused { IfErr result (λ e. RefusesOnly e (Fits K.cmp tables.old.items new → ⊥)) }
+{
+    if new.level >= LEVELS || !has_range::<K>(&new) {
+        return Err(ReadError::Corrupt(Damage::Number));
     }
     let place = place_for::<K>(tables, &new);
     if !ends_before::<K>(tables, place, &new) {
@@ -102,6 +113,16 @@ pub fn put_table<K: KeyOrder>(
     }
     tables.insert(place, new)?;
     Ok(())
+}
+
+// Whether no two of these tables have one number. All numbers are looked at together: to look for each among those in front takes the square
+// of their number.
+fn have_own_numbers(alloc: Global, tables: &[PlacedTable]) -> Result<bool, AllocError>
+    ensures { IfOk result (λ own. MatchBool own (AllPairs (λ a b. a.table.number ≢ b.table.number) tables.now)
+        (AllPairs (λ a b. a.table.number ≢ b.table.number) tables.now → ⊥)) }
+{
+    let numbers = numbers_of(alloc, tables)?;
+    Ok(are_distinct(&numbers))
 }
 
 /// Puts copies of these tables into a vector without any. Corrupt, as in `put_table`.
@@ -116,8 +137,11 @@ pub fn put_tables<K: KeyOrder>(
     ensures apart { OnOk result (AreTablesApart K.cmp listed.now) }
     ensures refused { IfErr result (λ e. RefusesOnly e (AreTablesApart K.cmp listed.now → ⊥)) }
 {
+    if !have_own_numbers(alloc, listed)? {
+        return Err(ReadError::Corrupt(Damage::Order));
+    }
     for placed in listed {
-        put_table::<K>(tables, copy_of(alloc, placed)?)?;
+        put_fresh::<K>(tables, copy_of(alloc, placed)?)?;
     }
     Ok(())
 }

@@ -6,6 +6,7 @@ ghost use Rattle.coding.specs.declared.error.DbError.TheVariants.{OutOfMemory};
 use crate::applying::apply_edit;
 use crate::choosing::level_in_need;
 use crate::copying::copies_of;
+use crate::numbers::{is_among, numbers_of};
 use crate::ordering::put_tables;
 use crate::plan::JobPlan;
 use crate::planning::{plan_behind, plan_of_level};
@@ -25,6 +26,8 @@ use std::marker::{Model, PhantomData};
 pub struct Version<K: KeyOrder> {
     tables: Vec<PlacedTable>,
     compact_pointers: Vec<Option<Bytes>>,
+    // those of the tables, rising: a removal asks for each file of a directory
+    numbers: Vec<u64>,
     order: PhantomData<K>,
 }
 
@@ -36,7 +39,7 @@ impl<K: KeyOrder> Model for Version<K> {
 
     ghost view = { λ v. record { tables = v.tables.items; compact_pointers = v.compact_pointers.items } };
 
-    ghost invariant = { λ v. IsVersion K.cmp v.tables.items v.compact_pointers.items };
+    ghost invariant = { λ v. IsVersion K.cmp v.tables.items v.compact_pointers.items v.numbers.items };
 }
 
 impl<K: KeyOrder> Version<K> {
@@ -61,9 +64,11 @@ impl<K: KeyOrder> Version<K> {
     {
         let mut tables = Vec::with_capacity(alloc, layout.tables.len())?;
         put_tables::<K>(alloc, &mut tables, &layout.tables)?;
+        let numbers = numbers_of(alloc, &tables)?;
         Ok(Version {
             tables,
             compact_pointers: pointers_like(alloc, &layout.compact_pointers)?,
+            numbers,
             order: PhantomData,
         })
     }
@@ -77,9 +82,11 @@ impl<K: KeyOrder> Version<K> {
     {
         let mut tables = copies_of(alloc, &self.tables)?;
         apply_edit::<K>(alloc, &mut tables, edit)?;
+        let numbers = numbers_of(alloc, &tables)?;
         Ok(Version {
             tables,
             compact_pointers: pointers_after(alloc, edit, &self.compact_pointers)?,
+            numbers,
             order: PhantomData,
         })
     }
@@ -95,6 +102,7 @@ impl<K: KeyOrder> Version<K> {
         Ok(Version {
             tables: copies_of(alloc, &plan.inputs)?,
             compact_pointers: no_pointers(alloc)?,
+            numbers: numbers_of(alloc, &plan.inputs)?,
             order: PhantomData,
         })
     }
@@ -212,11 +220,6 @@ impl<K: KeyOrder> Version<K> {
     pub fn has_number(&self, number: u64) -> bool
         ensures { MatchBool result (HasNumber number self.now.tables) (HasNumber number self.now.tables → ⊥) }
     {
-        for placed in &self.tables {
-            if placed.table.number == number {
-                return true;
-            }
-        }
-        false
+        is_among(&self.numbers, number)
     }
 }
