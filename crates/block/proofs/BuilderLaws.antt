@@ -346,6 +346,12 @@ pub pushes : (is_restart : Bool) (previous key value rest old new : List ℕ) (s
 pushes is_restart previous key value rest old new shared e le r w =
     (rest, w.0, subst (λ (n : ℕ). IsEntry n rest value w.0) e w.1, subst (λ (v : List ℕ). IsKeyBehind previous (cond is_restart 0 (common_prefix_len nat_eq previous key)) v key) (sym r) (key_shared is_restart previous key shared e le), w.2)
 
+-- the front of the key before and the rest are the key
+pub key_is : (is_restart : Bool) (previous key rest : List ℕ) (shared : ℕ) → shared ≡ cond is_restart 0 (common_prefix_len nat_eq previous key) → shared ≤ length previous → rest ≡ drop shared key
+    → take shared previous ++ rest ≡ key
+key_is is_restart previous key rest shared e le r =
+    (λ i. take (e i) previous ++ r i) ∙ sym (key_shared is_restart previous key shared e le).1
+
 -- ---- whether there is an entry
 
 some_pairs : (byte : ℕ) (bytes : List ℕ) → pairs_of (byte ∷ bytes) ≡ [] → ⊥

@@ -3,14 +3,13 @@
 ghost use Rattle.std.specs.Prelude.{◌≡◌, ◌<◌, ◌≤◌, ◌^◌, ◌++◌, ◌∷◌, [], List, ℕ, nat_eq, if◌then◌else◌, length, OnOk, OnErr};
 ghost use Rattle.std.specs.List.{common_prefix_len};
 ghost use Rattle.block.specs.Block.{IsEntry as IsEntryOf};
-ghost use Rattle.block.specs.Built.{PushesEntry, restart_of};
+ghost use Rattle.block.specs.Built.{restart_of};
 
 use crate::entry::{put_entry, shared_length};
 use crate::trailer::put_trailer;
 use ikey::EntryOrder;
 use std::alloc::{AllocError, Global};
 use std::marker::{Model, PhantomData};
-use std::mem;
 
 /// Builds a block of entries whose keys rise in the order O (LevelDB's table/block_builder.cc). Contracts see
 /// the restart interval and the list of pairs that were added.
@@ -20,8 +19,6 @@ pub struct BlockBuilder<O: EntryOrder> {
     // the restarts behind the first one, which is 0
     restarts: Vec<u32>,
     last_key: Vec<u8>,
-    // holds a key while its entry is written
-    next_key: Vec<u8>,
     // how many entries there are
     count: usize,
     interval: usize,
@@ -58,7 +55,6 @@ impl<O: EntryOrder> BlockBuilder<O> {
             out: Vec::new(alloc),
             restarts: Vec::new(alloc),
             last_key: Vec::new(alloc),
-            next_key: Vec::new(alloc),
             count: 0,
             interval,
             order: PhantomData,
@@ -97,19 +93,23 @@ impl<O: EntryOrder> BlockBuilder<O> {
         ensures ok { OnOk result (self.new ≡ record self.old { pairs = self.old.pairs ++ record { key = key.now; value = value.now } ∷ [] }) }
         ensures err { OnErr result (self.new ≡ self.old) }
     {
-        self.next_key.clear();
-        self.next_key.extend_from_slice(key)?;
         let is_restart = self.count % self.interval == 0;
+        let shared = shared_by(is_restart, &self.last_key, key);
+        let (_, rest) = key.split_at(shared);
+        // What comes behind the entry can't fail.
+        let missing = key.len().saturating_sub(self.last_key.len());
+        self.last_key.reserve(missing)?;
         push_entry(
             &mut self.out,
             &mut self.restarts,
             is_restart,
             self.count == 0,
-            &self.last_key,
-            key,
+            shared,
+            rest,
             value,
         )?;
-        mem::swap(&mut self.last_key, &mut self.next_key);
+        self.last_key.truncate(shared);
+        self.last_key.extend_from_slice(rest)?;
         self.count += 1;
         Ok(())
     }
@@ -154,21 +154,20 @@ fn push_entry(
     restarts: &mut Vec<u32>,
     is_restart: bool,
     is_first: bool,
-    previous: &[u8],
-    key: &[u8],
+    shared: usize,
+    rest: &[u8],
     value: &[u8],
 ) -> Result<(), AllocError>
     requires out { length out.old.items < 2 ^ 32 }
-    requires key { length key.now < 2 ^ 32 }
+    requires shared { shared < 2 ^ 32 }
+    requires rest { length rest.now < 2 ^ 32 }
     requires value { length value.now < 2 ^ 32 }
-    ensures entry { OnOk result (PushesEntry is_restart previous.now key.now value.now out.old.items out.new.items) }
+    ensures entry { OnOk result ((bytes : List ℕ) × IsEntryOf shared rest.now value.now bytes × (out.new.items ≡ out.old.items ++ bytes)) }
     ensures restarts { OnOk result (restarts.new.items ≡ restarts.old.items ++ restart_of is_restart is_first (length out.old.items)) }
     ensures out_stays { OnErr result (out.new.items ≡ out.old.items) }
     ensures restarts_stay { OnErr result (restarts.new.items ≡ restarts.old.items) }
 {
     let start = out.len();
-    let shared = shared_by(is_restart, previous, key);
-    let (_, rest) = key.split_at(shared);
     put_entry_or_nothing(out, shared, rest, value)?;
     if is_restart && !is_first {
         let pushed = push_restart(restarts, start as u32);

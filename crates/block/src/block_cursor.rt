@@ -254,7 +254,8 @@ fn put_behind(key: &mut Vec<u8>, shared: usize, rest: &[u8]) -> Result<(), Alloc
     ensures err { OnErr result (key.new.items ≡ key.old.items) }
 {
     // What comes after it can't fail.
-    key.reserve(rest.len())?;
+    let missing = (shared + rest.len()).saturating_sub(key.len());
+    key.reserve(missing)?;
     key.truncate(shared);
     key.extend_from_slice(rest)
 }
