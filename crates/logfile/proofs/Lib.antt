@@ -10,3 +10,8 @@ pub mod Faulty
 pub mod Parts
 pub mod OneFault
 pub mod Determined
+pub mod LeadingOn
+pub mod Longest
+pub mod Cutting
+pub mod Holes
+pub mod Fading

@@ -1,4 +1,4 @@
--- A log file (LevelDB's doc/log_format.md): blocks of 32,768 bytes, of which the last may be partial.
+-- A log file (LevelDB's doc/log_format.md): blocks of 32,768 bytes. The last one may be partial.
 -- Bytes, records and tail are related from the bytes up: blocks, the fragments in each, the records
 -- that the fragments join to.
 use Rattle.std.specs.Prelude.{◌≡◌, ◌<◌, ◌≤◌, ◌+◌, ◌-◌, ◌*◌, ◌⊎◌, ℕ, Bool, true, false, ◌||◌, if◌then◌else◌, List, [], ◌∷◌, ◌++◌, length, replicate, slice_index, nat_lt}
@@ -43,8 +43,8 @@ fragment_bytes fragment = fixed32 (masked (checksum (covered fragment))) ++ fixe
 abbrev pub length_said : List ℕ → ℕ
 length_said rest = slice_index rest 4 + 256 * slice_index rest 5
 
--- The end of the file cuts off what begins here: zeros where no header fits, a header, or the data of a
--- fragment. `room` bytes are left to the end of the block; the header says that the data end within them.
+-- The file's end cuts off what begins here: zeros where no header fits, a header, or a fragment's
+-- data. `room` bytes are left in the block. The header says that the data end within them.
 abbrev pub IsCutZeros : ℕ → List ℕ → Type 0
 IsCutZeros room rest = (room < 7) × (0 < length rest) × (length rest < room) × (rest ≡ replicate (length rest) 0)
 
@@ -54,14 +54,14 @@ IsCutHeader room rest = (7 ≤ room) × (0 < length rest) × (length rest < 7)
 abbrev pub IsCutData : ℕ → List ℕ → Type 0
 IsCutData room rest = (7 ≤ length rest) × (length rest < 7 + length_said rest) × (7 + length_said rest ≤ room)
 
--- What stands behind the last whole fragment of a block, with `room` bytes left there: nothing, zeros to
--- the end where no header fits (the trailer), or something cut off.
+-- What stands behind the last whole fragment of a block, with `room` bytes left there: nothing, the
+-- zeros of the trailer if no header fits, or something cut off.
 abbrev pub IsEnding : Bool → ℕ → List ℕ → Type 0
 IsEnding false room rest = (rest ≡ []) ⊎ ((room < 7) × (rest ≡ replicate room 0))
 IsEnding true room rest = IsCutZeros room rest ⊎ (IsCutHeader room rest ⊎ IsCutData room rest)
 
--- The bytes are these whole fragments, each within the `room` left in the block, and what stands behind
--- them; `cut` says whether that is cut off.
+-- The bytes are these whole fragments, each within the `room` left in the block, and what stands
+-- behind them. `cut` says whether that is cut off.
 abbrev pub IsLogBlock : ℕ → List Fragment → Bool → List ℕ → Type 0
 IsLogBlock room [] cut bytes = IsEnding cut room bytes
 IsLogBlock room (fragment ∷ fragments) cut bytes =
@@ -77,8 +77,8 @@ pub data AreBlocks : List ℕ → List Fragment → Bool → Type 0 where
 
 -- ---- records
 
--- From a place on, inside a record or not, the fragments join to these records. Inside one, the first of
--- them is what is left of it. `begun` says whether the last record is without its end, and then it isn't listed.
+-- From a place on, inside a record or not, the fragments join to these records. Inside one, the
+-- first of them is what is left of it. `begun`: the last record lacks its end, and isn't listed.
 abbrev pub Join : Bool → List Fragment → List (List ℕ) → Bool → Type 0
 Join inside [] [] begun = begun ≡ inside
 Join inside [] (record_bytes ∷ records) begun = ⊥
@@ -106,8 +106,8 @@ pub record IsLog (bytes : List ℕ) (records : List (List ℕ)) (tail : Tail) : 
 
 -- ---- the writer's choice
 
--- Each fragment but the last fills its block, and none but the first is empty: so each is as long as its
--- block allows. `room` bytes are left where the first begins.
+-- Each fragment but the last fills its block, and none but the first is empty. So each is as long
+-- as its block allows. `room` bytes are left where the first begins.
 abbrev pub AreLongest : ℕ → List Fragment → Type 0
 AreLongest room [] = ⊥
 AreLongest room (fragment ∷ []) = 7 + length (data_of fragment) ≤ room

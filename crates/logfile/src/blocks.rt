@@ -11,8 +11,9 @@ use crate::fragment::{BLOCK_LENGTH, Fragment, HEADER_LENGTH, fragment_at};
 use coding::{Damage, ReadError};
 use std::alloc::Global;
 
-/// The fragments of a log, and whether something at its end is cut off. Their data are slices of the log:
-/// no byte is copied, and the one thing allocated is the vector of them, which grows by doubling.
+/// Returns the fragments of a log, and whether something at its end is cut off.
+/// Their data are slices of the log: no byte is copied. Only the vector is allocated; it grows by
+/// doubling.
 pub fn fragments_of(alloc: Global, bytes: &[u8]) -> Result<(Vec<Fragment<'_>>, bool), ReadError>
     ensures found { IfOk result (λ found. AreBlocks bytes.now (views found.0.items) found.1) }
     ensures cause { IfErr result (λ e. NamesFault e (λ what. AreFaulty what bytes.now)) }
@@ -29,8 +30,9 @@ pub fn fragments_of(alloc: Global, bytes: &[u8]) -> Result<(Vec<Fragment<'_>>, b
     Ok((fragments, cut))
 }
 
-/// Whether a block is one of a log, whole or cut off by the file's end: refused as damaged is one with a fault, by which
-/// it is no block of any log (`each_block`). So a long file is judged by some of its blocks before more of it is read.
+/// Checks that a block is one of a log, whole or cut off by the file's end. A reader judges a
+/// long file by some of its blocks before it reads more: a block with a fault is in no log
+/// (`each_block`).
 pub fn judge_block(alloc: Global, block: &[u8]) -> Result<(), ReadError>
     ensures found { IfOk result (λ _. (fragments : List FragmentValue) × (cut : Bool) × AreBlocks block.now fragments cut) }
     ensures fault { IfErr result (λ e. NamesFault e (λ what. AreFaulty what block.now)) }
@@ -40,7 +42,7 @@ pub fn judge_block(alloc: Global, block: &[u8]) -> Result<(), ReadError>
     Ok(())
 }
 
-// Adds the fragments of a block, and answers whether something at its end is cut off.
+// Adds the fragments of a block, and returns whether something at its end is cut off.
 fn push_fragments<'a>(fragments: &mut Vec<Fragment<'a>>, block: &'a [u8]) -> Result<bool, ReadError>
     requires { length block.now ≤ 32768 }
     ensures found { IfOk result (λ cut. (here : List FragmentValue) × (views fragments.new.items ≡ views fragments.old.items ++ here) × IsLogBlock 32768 here cut block.now) }
@@ -69,7 +71,8 @@ fn push_fragments<'a>(fragments: &mut Vec<Fragment<'a>>, block: &'a [u8]) -> Res
     Ok(rest.len() < room)
 }
 
-fn are_zeros(bytes: &[u8]) -> bool
+// Returns whether each byte is zero.
+pub fn are_zeros(bytes: &[u8]) -> bool
     ensures { MatchBool result (EachIndex bytes.now (λ k. slice_index bytes.now k ≡ 0)) (EachIndex bytes.now (λ k. slice_index bytes.now k ≡ 0) → ⊥) }
 {
     bytes.iter().all(|byte| *byte == 0)

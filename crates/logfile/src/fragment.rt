@@ -11,23 +11,23 @@ use byteorder::{ByteOrder, LittleEndian};
 use coding::{Damage, crc32c, mask, put_fixed32};
 use std::alloc::AllocError;
 
-/// How many bytes a header takes: the checksum, the length of the data, and the type.
+/// The size of a header: the checksum, the length of the data, and the type.
 pub const HEADER_LENGTH: usize = 7;
 
-/// How many bytes a block takes. The last one of a log may have fewer.
+/// The size of a block. The last one of a log may be shorter.
 pub const BLOCK_LENGTH: usize = 32_768;
 
-/// A fragment of a log that is read, whose data are a slice of the log.
+/// A fragment that was read. Its data are a slice of the log.
 #[derive(Clone, Copy, Debug)]
 pub struct Fragment<'a> {
     pub kind: Kind,
     pub data: &'a [u8],
 }
 
-/// The fragment at the front, and the bytes behind it; or None where the end of the file cuts it off.
-/// `room` bytes are left in the block. Refused are, in this order, a length that runs past the block, a
-/// checksum that isn't the one of type and data, and a type that isn't known. Of a fragment whose data
-/// are cut off just the length is judged.
+/// Returns the fragment at the front and the bytes after it, or None if the file's end cuts it
+/// off. `room` bytes are left in the block. Fails, in this order, on a length past the block, a
+/// checksum that doesn't fit type and data, and an unknown type. If the data are cut off, only
+/// the length is judged.
 pub fn fragment_at(bytes: &[u8], room: usize) -> Result<Option<(Fragment<'_>, &[u8])>, Damage>
     requires room { 7 ≤ room }
     requires block { room ≤ 32768 }
@@ -59,7 +59,7 @@ pub fn fragment_at(bytes: &[u8], room: usize) -> Result<Option<(Fragment<'_>, &[
     }
 }
 
-/// Writes a fragment at the end, or a beginning of it where memory runs out (LevelDB's
+/// Appends a fragment, or a part of it if memory runs out (LevelDB's
 /// `log::Writer::EmitPhysicalRecord`, its db/log_writer.cc).
 pub fn put_fragment(out: &mut Vec<u8>, kind: Kind, part: &[u8]) -> Result<(), AllocError>
     requires { length part.now < 65536 }

@@ -14,8 +14,8 @@ use coding::{Damage, ReadError};
 use std::alloc::Global;
 use std::mem;
 
-/// The records, and whether one at the end is without its last fragment. Each record is a copy: one of a
-/// single fragment is copied at once, and one of several grows by each of them.
+/// Returns the records, and whether the last one lacks its last fragment. Each record is a copy.
+/// A record of one fragment is copied at once, a longer one fragment by fragment.
 pub fn records_of(
     alloc: Global,
     fragments: &[Fragment<'_>],
@@ -33,8 +33,9 @@ pub fn records_of(
     Ok((records, inside))
 }
 
-// Takes a fragment into the record that is begun, if one is, and answers whether one is begun then. A
-// record's beginning within another, and a middle or an end outside of one, are out of order.
+// Adds a fragment to the record that is begun, if one is, and returns whether one is begun
+// afterwards. Out of order are a record's first fragment within another, and a middle or last one
+// outside of any.
 fn take_in(
     alloc: Global,
     records: &mut Vec<Vec<u8>>,

@@ -11,13 +11,13 @@ pub enum Kind {
     Full,
     /// Its beginning.
     First,
-    /// What is neither its beginning nor its end.
+    /// Neither its beginning nor its end.
     Middle,
     /// Its end.
     Last,
 }
 
-/// The number that stands for the type.
+/// Returns the number that stands for the type.
 pub fn number_of(kind: Kind) -> u8
     ensures { result ≡ number_of_kind kind }
 {
@@ -29,7 +29,7 @@ pub fn number_of(kind: Kind) -> u8
     }
 }
 
-/// The type that the number stands for, if it is one of the four.
+/// Returns the type that the number stands for, or None if there is none.
 pub fn kind_of(number: u8) -> Option<Kind>
     ensures { MatchOption result ((kind : KindValue) → number_of_kind kind ≡ number → ⊥) (λ kind. number_of_kind kind ≡ number) }
 {

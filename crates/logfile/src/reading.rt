@@ -13,13 +13,13 @@ use crate::record::Tail;
 use coding::ReadError;
 use std::alloc::Global;
 
-/// The records of a log, and how it ends. What the end of the file cuts off is a torn tail and no error;
-/// `Corrupt` is a whole fragment with another checksum, at any place, the end too, a type that isn't
-/// known, a length that runs past its block, bytes other than zero where no header fits, and fragments
-/// out of order. Each byte is looked at once, by the checksum, and copied once, into its record; no
-/// length that the bytes say is used to take memory before the bytes are known to be there.
+/// Returns the records of a log, and how it ends. What the file's end cuts off is a torn tail and
+/// no error. `Corrupt` is, at any place, a whole fragment whose checksum doesn't fit, an unknown
+/// type, a length past its block, a byte other than zero where no header fits, and fragments out
+/// of order. Each byte is read once for the checksum and copied once into its record. No length
+/// that the file says is used to allocate memory before that many bytes are known to be there.
 pub fn read_log(alloc: Global, bytes: &[u8]) -> Result<(Vec<Vec<u8>>, Tail), ReadError>
-    // The bytes are the log of the records and the tail that are answered.
+    // The bytes are the log of these records and this tail.
     ensures found { IfOk result (λ found. IsLog bytes.now (map (λ r. r.items) found.0.items) found.1) }
     // What is refused as damaged has a fault of that kind.
     ensures fault { IfErr result (λ e. NamesFault e (λ what. HasFault what bytes.now)) }
@@ -52,7 +52,7 @@ pub fn one_kind_of_fault()
     ensures { (what other : Damage) (bytes : List ℕ) → HasFault what bytes → HasFault other bytes → what ≡ other }
 {}
 
-/// Law: from a block's beginning on, any bytes of a log are blocks of one. So is each of its blocks.
+/// Law: any bytes of a log that begin at a block are blocks of a log. So is each single block.
 pub fn each_block()
     ensures { (bytes : List ℕ) (records : List (List ℕ)) (tail : TailValue) (k n : ℕ) → IsLog bytes records tail
         → (fragments : List Fragment) × (cut : Bool) × AreBlocks (take n (drop (32768 * k) bytes)) fragments cut }

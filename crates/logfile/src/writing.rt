@@ -15,12 +15,12 @@ use std::alloc::{AllocError, Global};
 pub struct LogWriter;
 
 impl LogWriter {
-    /// The bytes that add a record to a log of `position` bytes: zeros where the block has no room for a
-    /// header, then the record's fragments, none of which could be longer. A record of no bytes is one
-    /// empty fragment. The room for all of them is taken once, before a byte is written; the one error
-    /// is `OutOfMemory`.
+    /// Returns the bytes that add a record to a log of `position` bytes: zeros if the block has
+    /// no room for a header, then the record's fragments, each as long as possible. A record of
+    /// no bytes is one empty fragment. All memory is allocated before a byte is written. The only
+    /// error is `OutOfMemory`.
     pub fn encode(alloc: Global, position: u64, payload: &[u8]) -> Result<Vec<u8>, DbError>
-        // A clean log of that length, with these bytes behind it, is the log with the record added.
+        // A clean log of that length with these bytes appended is the log with the record added.
         ensures appends { IfOk result (λ added. (bytes : List ℕ) (records : List (List ℕ))
             → length bytes ≡ position → IsLog bytes records Clean
             → IsLog (bytes ++ added.items) (records ++ payload.now ∷ []) Clean) }
@@ -35,7 +35,8 @@ impl LogWriter {
         Ok(out)
     }
 
-    /// The same in place of what `out` holds, whose room is used again. Where memory fails, some other bytes are left.
+    /// Does the same in `out`: replaces what it holds, and reuses its memory. After an error
+    /// `out` holds other bytes.
     pub fn encode_into(out: &mut Vec<u8>, position: u64, payload: &[u8]) -> Result<(), DbError>
         ensures appends { OnOk result ((bytes : List ℕ) (records : List (List ℕ))
             → length bytes ≡ position → IsLog bytes records Clean
@@ -57,7 +58,7 @@ impl LogWriter {
     }
 }
 
-// How many bytes a payload of `size` bytes adds where `room` bytes are left in the block.
+// Returns how many bytes a payload of `size` bytes adds if `room` bytes are left in the block.
 fn added_length(room: usize, size: usize) -> usize
     requires room { room ≤ 32768 }
     requires size { size < 2 ^ 63 }
@@ -73,7 +74,7 @@ fn added_length(room: usize, size: usize) -> usize
     skipped + size + HEADER_LENGTH * fragments
 }
 
-// Writes the trailer of a block: the zeros where no header fits.
+// Writes the trailer of a block: zeros, as no header fits.
 fn put_zeros(out: &mut Vec<u8>, count: usize) -> Result<(), AllocError>
     requires { count < 7 }
     ensures { OnOk result (out.new.items ≡ out.old.items ++ replicate count 0) }
@@ -82,7 +83,7 @@ fn put_zeros(out: &mut Vec<u8>, count: usize) -> Result<(), AllocError>
     out.extend_from_slice(&zeros[..count])
 }
 
-// Writes a record's fragments at the end, or a beginning of them where memory runs out.
+// Appends a record's fragments, or a part of them if memory runs out.
 // `room` bytes are left in the block.
 fn put_fragments(out: &mut Vec<u8>, room: usize, payload: &[u8]) -> Result<(), AllocError>
     requires some { 7 ≤ room }
