@@ -24,8 +24,8 @@ pub fn header_of(bytes: &[u8]) -> Option<(u64, u32, &[u8])>
     Some((sequence, count, behind))
 }
 
-/// As many operations at the front, and the bytes behind them. The room for them grows with those that
-/// were read, whatever the count says.
+/// As many operations at the front, and the bytes behind them. The room for them grows with those
+/// that were read, whatever the count says.
 pub fn operations_of(
     alloc: Global,
     count: u32,

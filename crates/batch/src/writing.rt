@@ -10,8 +10,8 @@ use coding::{DbError, put_fixed32, put_fixed64, put_string};
 use std::alloc::{AllocError, Global};
 
 /// The bytes of the batch of these operations, the first of which has this sequence (LevelDB's
-/// `WriteBatch::rep_`, its db/write_batch.cc). Their room is taken once, before a byte is written. It fails only where
-/// memory does.
+/// `WriteBatch::rep_`, its db/write_batch.cc). Their room is taken once, before a byte is written.
+/// It fails only where memory does.
 pub fn encode_operations(
     alloc: Global,
     sequence: u64,
@@ -29,7 +29,8 @@ pub fn encode_operations(
     Ok(out)
 }
 
-/// The same in place of what `out` holds, whose room is used again. Where memory fails, some other bytes are left.
+/// The same in place of what `out` holds, whose room is used again. Where memory fails, some other
+/// bytes are left.
 pub fn encode_operations_into(
     out: &mut Vec<u8>,
     sequence: u64,
@@ -109,8 +110,8 @@ fn put_operation(out: &mut Vec<u8>, operation: &Operation) -> Result<(), AllocEr
     }
 }
 
-/// Law: an encoding is as long as its operations make it; one of operations that aren't refused is within
-/// the limits of a batch.
+/// Law: an encoding is as long as its operations make it; one of operations that aren't refused is
+/// within the limits of a batch.
 pub fn encoding_length()
     ensures length { (bytes : List ℕ) (sequence : ℕ) (operations : List OperationValue)
         → IsBatch bytes sequence operations → length bytes ≡ encoded_length operations }

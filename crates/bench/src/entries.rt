@@ -6,7 +6,8 @@ const KEY_BYTES: usize = 16;
 
 const VALUE_BYTES: usize = 100;
 
-// From how many bytes values are taken: more than a processor keeps nearby, so that copying a value costs what it does elsewhere.
+// From how many bytes values are taken: more than a processor keeps nearby, so that copying a value
+// costs what it does elsewhere.
 const NOISE_BYTES: usize = 1 << 20;
 
 const NOISE_SEED: u64 = 301;
@@ -72,15 +73,15 @@ impl Keys {
         self.text.as_slice()
     }
 
-    /// The next key without its last digit, so that it lies among the keys and is none of them (LevelDB's
-    /// benchmarks/db_bench.cc, `ReadMissing`).
+    /// The next key without its last digit, so that it lies among the keys and is none of them
+    /// (LevelDB's benchmarks/db_bench.cc, `ReadMissing`).
     pub fn next_missing(&mut self) -> &[u8] {
         let _ = self.next_key();
         self.text.get(..KEY_BYTES - 1).unwrap_or(&[])
     }
 
-    /// The next key with its last digit replaced, so that it lies among the keys and is none of them: the filter's hash tells
-    /// such keys badly apart.
+    /// The next key with its last digit replaced, so that it lies among the keys and is none of
+    /// them: the filter's hash tells such keys badly apart.
     pub fn next_near(&mut self) -> &[u8] {
         let _ = self.next_key();
         self.text[KEY_BYTES - 1] = b'.';

@@ -8,7 +8,8 @@ use coding::DbError;
 use engine::Options;
 use store::{FileStore, StoreError};
 
-/// Runs the workload of a name over the folder at a path, prints its line, and answers the exit status.
+/// Runs the workload of a name over the folder at a path, prints its line, and answers the exit
+/// status.
 pub fn run(rt: &HostRuntime, name: &str, number: &str, path: &str) -> u8 {
     let Some(workload) = named(name) else {
         return misuse(rt);
@@ -36,8 +37,9 @@ pub fn counted(text: &str) -> Option<u64> {
     }
 }
 
-// From how many tables of level 0 on they are merged. LevelDB begins to with 4, and comes to it when it has 8 in most cases, since its
-// thread is busy: `bench/run` prints how many it merged. Here nothing waits, so that 8 is what makes both merge as many at once.
+// From how many tables of level 0 on they are merged. LevelDB begins to with 4, and comes to it
+// when it has 8 in most cases, since its thread is busy: `bench/run` prints how many it merged.
+// Here nothing waits, so that 8 is what makes both merge as many at once.
 const LEVEL0_FILES: u64 = 8;
 
 /// The sizes of LevelDB's db_bench, with a cache of 8 MB.

@@ -11,8 +11,8 @@ use ikey::EntryOrder;
 use std::alloc::{AllocError, Global};
 use std::marker::{Model, PhantomData};
 
-/// Builds a block of entries whose keys rise in the order O (LevelDB's table/block_builder.cc). Contracts see
-/// the restart interval and the list of pairs that were added.
+/// Builds a block of entries whose keys rise in the order O (LevelDB's table/block_builder.cc).
+/// Contracts see the restart interval and the list of pairs that were added.
 #[derive(Drop)]
 pub struct BlockBuilder<O: EntryOrder> {
     out: Vec<u8>,
@@ -61,8 +61,8 @@ impl<O: EntryOrder> BlockBuilder<O> {
         }
     }
 
-    /// The same, in the memory of a vector, whose bytes are dropped: so one block is built in the memory of another that was
-    /// written.
+    /// The same, in the memory of a vector, whose bytes are dropped: so one block is built in the
+    /// memory of another that was written.
     pub fn reusing(alloc: Global, interval: usize, room: Vec<u8>) -> Self
         requires { 0 < interval }
         ensures { result ≡ record { interval = interval; pairs = [] } }
@@ -85,8 +85,8 @@ impl<O: EntryOrder> BlockBuilder<O> {
         O::is_below(&self.last_key, key)
     }
 
-    /// Adds an entry, whose key is above the last one, at the end. It shares as much of the key before as it
-    /// can, and nothing where it is a restart. An `Err` changes nothing.
+    /// Adds an entry, whose key is above the last one, at the end. It shares as much of the key
+    /// before as it can, and nothing where it is a restart. An `Err` changes nothing.
     pub fn add(&mut self, key: &[u8], value: &[u8]) -> Result<(), AllocError>
         requires rises { ForSome (last_key self.old.pairs) (λ last. O.below last key.now) }
         requires room { written_length self.old + length key.now + length value.now ≤ 2 ^ 31 }
@@ -148,7 +148,8 @@ impl<O: EntryOrder> BlockBuilder<O> {
     }
 }
 
-// Adds an entry, and its offset to the restarts where it is one and not the first. An `Err` changes nothing.
+// Adds an entry, and its offset to the restarts where it is one and not the first. An `Err` changes
+// nothing.
 fn push_entry(
     out: &mut Vec<u8>,
     restarts: &mut Vec<u32>,

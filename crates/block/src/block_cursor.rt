@@ -23,9 +23,9 @@ struct Spot {
     next: usize,
 }
 
-/// Walks over a block's entries. A walk up keeps the key in one buffer, and reads each value in place; the
-/// other moves use a second buffer, until they have succeeded. Contracts see the block's list of pairs, and
-/// the index of the pair that the cursor stands on.
+/// Walks over a block's entries. A walk up keeps the key in one buffer, and reads each value in
+/// place; the other moves use a second buffer, until they have succeeded. Contracts see the block's
+/// list of pairs, and the index of the pair that the cursor stands on.
 #[derive(Drop)]
 pub struct BlockCursor<O: EntryOrder> {
     block: Rc<Block<O>>,
@@ -103,8 +103,8 @@ impl<O: EntryOrder> BlockCursor<O> {
         Ok(())
     }
 
-    /// Stands on the first entry whose key isn't below the target, or nowhere where there is none. It finds a
-    /// restart by halving, and reads on from there. An `Err` leaves the place.
+    /// Stands on the first entry whose key isn't below the target, or nowhere where there is none.
+    /// It finds a restart by halving, and reads on from there. An `Err` leaves the place.
     pub fn seek(&mut self, target: &[u8]) -> Result<(), AllocError>
         ensures pairs { self.new.pairs ≡ self.old.pairs }
         ensures ok { IfOk result (λ _. (index : ℕ) × IsFirstNotBelow O.below target.now self.old.pairs index × (self.new.place ≡ within self.old.pairs index)) }
@@ -291,7 +291,8 @@ fn walk_to_not_below<O: EntryOrder>(
     Ok(false)
 }
 
-// A restart in front of which all keys are below the target: the last one whose key is, or the first restart.
+// A restart in front of which all keys are below the target: the last one whose key is, or the
+// first restart.
 fn restart_below<O: EntryOrder>(body: &[u8], restarts: &[u8], target: &[u8]) -> usize
     requires restarts { HasRestarts body.now restarts.now }
     requires rises { AreAbove O.below None (pairs_of body.now) }

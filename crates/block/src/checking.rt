@@ -13,9 +13,9 @@ use ikey::EntryOrder;
 use std::alloc::{AllocError, Global};
 use std::mem;
 
-/// Whether the bytes are entries whose keys rise in the order O, and the restarts are offsets of entries that
-/// share nothing, the first of them 0: the last key, which has no bytes where there is no entry. At most two keys are kept at a
-/// time.
+/// Whether the bytes are entries whose keys rise in the order O, and the restarts are offsets of
+/// entries that share nothing, the first of them 0: the last key, which has no bytes where there is
+/// no entry. At most two keys are kept at a time.
 pub fn check_entries<O: EntryOrder>(
     alloc: Global,
     body: &[u8],
@@ -66,8 +66,8 @@ pub fn check_entries<O: EntryOrder>(
     }
 }
 
-// Makes the next key of the one before it, and says whether it is above that one. Mostly one byte tells, and the front
-// that both share then stays where it is.
+// Makes the next key of the one before it, and says whether it is above that one. Mostly one byte
+// tells, and the front that both share then stays where it is.
 fn next_key<O: EntryOrder>(
     key: &mut Vec<u8>,
     spare: &mut Vec<u8>,

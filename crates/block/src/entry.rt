@@ -17,8 +17,8 @@ pub struct Entry<'a> {
     pub value: &'a [u8],
 }
 
-/// The entry at the front, and the bytes behind it. There is none where the bytes end too soon, or a length
-/// isn't a number of at most 32 bits in its shortest form.
+/// The entry at the front, and the bytes behind it. There is none where the bytes end too soon, or
+/// a length isn't a number of at most 32 bits in its shortest form.
 pub fn entry_at(bytes: &[u8]) -> Option<(Entry<'_>, &[u8])>
     ensures found { IfSome result (λ found. (front : List ℕ) × IsEntry found.0.shared found.0.rest.now found.0.value.now front × (bytes.now ≡ front ++ found.1.now)) }
     ensures none { IfNone result ((shared : ℕ) (rest value front behind : List ℕ) → IsEntry shared rest value front → bytes.now ≡ front ++ behind → ⊥) }

@@ -16,15 +16,16 @@ use std::marker::{Model, PhantomData};
 /// The most bytes of a block that is read: a longer one isn't supported.
 pub const MAX_BLOCK_LENGTH: usize = 1 << 30;
 
-/// Between which bounds the keys of a block have to lie: above the first, where there is one, and not above the second.
+/// Between which bounds the keys of a block have to lie: above the first, where there is one, and
+/// not above the second.
 #[derive(Clone, Copy, Debug)]
 pub struct Bounds<'a> {
     pub floor: Option<&'a [u8]>,
     pub most: &'a [u8],
 }
 
-/// A block, checked once when it is opened, whose keys rise in the order O. Contracts see the bytes of its
-/// entries and the list of its pairs.
+/// A block, checked once when it is opened, whose keys rise in the order O. Contracts see the bytes
+/// of its entries and the list of its pairs.
 #[derive(Drop)]
 pub struct Block<O: EntryOrder> {
     pub(crate) bytes: Vec<u8>,
@@ -55,9 +56,9 @@ impl<O: EntryOrder> Block<O> {
     ghost use Rattle.block.specs.Reading.{pairs_of};
     ghost use Rattle.block.specs.Spots.{HasRestarts};
 
-    /// The block that the bytes are, all of them. They are refused as corrupt where they are no block in the
-    /// order O (LevelDB's doc/table_format.md), as unsupported where there are more than `MAX_BLOCK_LENGTH`,
-    /// and where memory runs out for a key that is checked.
+    /// The block that the bytes are, all of them. They are refused as corrupt where they are no
+    /// block in the order O (LevelDB's doc/table_format.md), as unsupported where there are more
+    /// than `MAX_BLOCK_LENGTH`, and where memory runs out for a key that is checked.
     pub fn open(alloc: Global, bytes: Vec<u8>) -> Result<Self, ReadError>
         // The bytes are the encoding of what is read.
         ensures found { IfOk result (λ block. IsBlock O.below bytes.items block.pairs) }
@@ -69,7 +70,8 @@ impl<O: EntryOrder> Block<O> {
         Ok(block)
     }
 
-    /// The same, where its keys lie between these bounds: as corrupt a block is refused that has another one, too.
+    /// The same, where its keys lie between these bounds: as corrupt a block is refused that has
+    /// another one, too.
     pub fn open_between(
         alloc: Global,
         bytes: Vec<u8>,

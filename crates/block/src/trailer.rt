@@ -9,8 +9,8 @@ ghost use Rattle.block.specs.Block.{trailer as trailer_of, AllSmall};
 use coding::{get_fixed32, put_fixed32};
 use std::alloc::AllocError;
 
-/// The entries, and the restarts in the four bytes each that they take. There are none where the bytes end
-/// too soon for that number of restarts.
+/// The entries, and the restarts in the four bytes each that they take. There are none where the
+/// bytes end too soon for that number of restarts.
 pub fn parts_of(bytes: &[u8]) -> Option<(&[u8], &[u8])>
     ensures found { IfSome result (λ found. (count : ℕ) × (length found.1.now ≡ 4 * count) × (bytes.now ≡ found.0.now ++ (found.1.now ++ fixed32 count))) }
     ensures none { IfNone result ((body restarts : List ℕ) → length restarts < 2 ^ 32 → bytes.now ≡ body ++ trailer_of restarts → ⊥) }

@@ -24,11 +24,12 @@ type Pushed<K> = Result<
     AllocFailed<(Slot, Rc<Block<Internal<K>>>)>,
 >;
 
-/// Blocks that were read, up to a number of them, by the number of their table and their index in it (LevelDB's
-/// util/cache.cc). Where there are too many, the least recently used goes. Contracts see the blocks that are kept, the
-/// most recently used first, and how many there may be.
+/// Blocks that were read, up to a number of them, by the number of their table and their index in
+/// it (LevelDB's util/cache.cc). Where there are too many, the least recently used goes. Contracts
+/// see the blocks that are kept, the most recently used first, and how many there may be.
 ///
-/// The memory of the block that went last is kept too, unless somebody still reads that: the next one is read into it.
+/// The memory of the block that went last is kept too, unless somebody still reads that: the next
+/// one is read into it.
 #[derive(Drop)]
 pub struct BlockCache<K: KeyOrder> {
     // None where nothing is ever kept.
@@ -96,9 +97,9 @@ impl<K: KeyOrder> BlockCache<K> {
         self.len() == 0
     }
 
-    /// The block of an index of the table of this number: the one that is kept or, where none is, what the reader
-    /// answers, which is kept from then on where it is a block and there is memory to keep it. OutOfMemory, for a kept
-    /// block, where it has as many owners as can be counted.
+    /// The block of an index of the table of this number: the one that is kept or, where none is,
+    /// what the reader answers, which is kept from then on where it is a block and there is memory
+    /// to keep it. OutOfMemory, for a kept block, where it has as many owners as can be counted.
     pub fn fetch<Source, R: ReadBlock<K, Source>>(
         &mut self,
         alloc: Global,
@@ -128,8 +129,8 @@ impl<K: KeyOrder> BlockCache<K> {
         Ok(block)
     }
 
-    /// The data block of an index of this open table, which has this number: by `fetch`. Corrupt and Unsupported as
-    /// `Table::block_at`.
+    /// The data block of an index of this open table, which has this number: by `fetch`. Corrupt
+    /// and Unsupported as `Table::block_at`.
     pub fn read_block<S: Store>(
         &mut self,
         alloc: Global,
@@ -139,7 +140,8 @@ impl<K: KeyOrder> BlockCache<K> {
         index: usize,
     ) -> Result<Rc<Block<Internal<K>>>, DbError>
         ensures reads { Reads (S.facts store.old) (S.facts store.new) }
-        // Where each kept block is that of its table, so is the one that is answered, and so are those kept afterwards.
+        // Where each kept block is that of its table, so is the one that is answered, and so are
+        // those kept afterwards.
         ensures found { (content : ℕ → Option (List ℕ)) → HoldsBlocks K.cmp content self.old.blocks → HasContent K.cmp content file (S.facts store.old) table.now
             → IsTrue (S.facts store.new).faithful → IfOk (answer_of result) (λ pairs. IsBlockOf K.cmp content file index pairs) }
         ensures holds { (content : ℕ → Option (List ℕ)) → HoldsBlocks K.cmp content self.old.blocks → HasContent K.cmp content file (S.facts store.old) table.now
@@ -215,7 +217,8 @@ fn find_in<K: KeyOrder>(
     Ok(Some(block))
 }
 
-// Keeps the block, where there is memory for it, and answers the memory of the one that goes for it.
+// Keeps the block, where there is memory for it, and answers the memory of the one that goes for
+// it.
 fn keep_in<K: KeyOrder>(
     blocks: &mut LruCache<Slot, Rc<Block<Internal<K>>>>,
     file: u64,

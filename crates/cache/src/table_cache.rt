@@ -15,9 +15,9 @@ use std::rc::Rc;
 use store::Store;
 use table::Table;
 
-/// Tables that stay open, up to a number of them, by their number (LevelDB's db/table_cache.cc). Where there are too
-/// many, the least recently used goes. Contracts see the tables that are kept, the most recently used first, and how
-/// many there may be.
+/// Tables that stay open, up to a number of them, by their number (LevelDB's db/table_cache.cc).
+/// Where there are too many, the least recently used goes. Contracts see the tables that are kept,
+/// the most recently used first, and how many there may be.
 #[derive(Drop)]
 pub struct TableCache<K: KeyOrder> {
     // None where nothing is ever kept.
@@ -78,9 +78,10 @@ impl<K: KeyOrder> TableCache<K> {
         self.len() == 0
     }
 
-    /// The open table of this number: the one that is kept or, where none is, one that is opened, and kept from then on
-    /// where there is memory to keep it. Its file is the one that ends in `.ldb` or, where there is none, the one that
-    /// ends in `.sst`; where neither is there it is Corrupt. Corrupt and Unsupported else as `Table::open`.
+    /// The open table of this number: the one that is kept or, where none is, one that is opened,
+    /// and kept from then on where there is memory to keep it. Its file is the one that ends in
+    /// `.ldb` or, where there is none, the one that ends in `.sst`; where neither is there it is
+    /// Corrupt. Corrupt and Unsupported else as `Table::open`.
     pub fn get_table<S: Store>(
         &mut self,
         alloc: Global,
@@ -88,7 +89,8 @@ impl<K: KeyOrder> TableCache<K> {
         number: u64,
     ) -> Result<Rc<Table<K>>, DbError>
         requires { 0 < number }
-        // A kept table is answered, and the store isn't asked. Else the answer is that of opening the table's file.
+        // A kept table is answered, and the store isn't asked. Else the answer is that of opening
+        // the table's file.
         ensures answer { MatchOption (kept_table_at self.old.tables number)
             (OpensTable K.cmp (S.facts store.old) (S.facts store.new) number (table_answer_of result))
             (λ table. HitsTable table (table_answer_of result) × (store.new ≡ store.old)) }
@@ -99,7 +101,8 @@ impl<K: KeyOrder> TableCache<K> {
             (IsTableAnswerPut number (table_answer_of result) self.old.capacity (tables_when_used number self.old.tables) self.new.tables)
             (λ _. self.new.tables ≡ tables_when_used number self.old.tables) }
         ensures reads { Reads (S.facts store.old) (S.facts store.new) }
-        // Where each kept table is that of its number, so is the one that is answered, and so are those kept afterwards.
+        // Where each kept table is that of its number, so is the one that is answered, and so are
+        // those kept afterwards.
         ensures found { (content : ℕ → Option (List ℕ)) → HoldsTables K.cmp content (S.facts store.old) self.old.tables → HasTableInUse content number (S.facts store.old)
             → IsTrue (S.facts store.new).faithful → IfOk (table_answer_of result) (λ table. IsOpenOf K.cmp content (S.facts store.new) number table) }
         ensures holds { (content : ℕ → Option (List ℕ)) → HoldsTables K.cmp content (S.facts store.old) self.old.tables → HasTableInUse content number (S.facts store.old)
@@ -114,7 +117,8 @@ impl<K: KeyOrder> TableCache<K> {
         self.fetch(alloc, store, number)
     }
 
-    /// Closes the table of this number, where it is kept: its file is to be removed (LevelDB's `TableCache::Evict`).
+    /// Closes the table of this number, where it is kept: its file is to be removed (LevelDB's
+    /// `TableCache::Evict`).
     pub fn evict(&mut self, number: u64)
         ensures gone { kept_table_at self.new.tables number ≡ None }
         ensures kept { (kept : KeptTable) → Contains self.new.tables kept → Contains self.old.tables kept }
@@ -126,7 +130,8 @@ impl<K: KeyOrder> TableCache<K> {
         evict_from(tables, number);
     }
 
-    // The table that is kept or, where none is, one that is opened, and kept where there is memory to keep it.
+    // The table that is kept or, where none is, one that is opened, and kept where there is memory
+    // to keep it.
     fn fetch<S: Store>(
         &mut self,
         alloc: Global,
@@ -219,8 +224,8 @@ fn evict_from<K: KeyOrder>(tables: &mut LruCache<u64, Rc<Table<K>>>, number: u64
     let _table = tables.pop(&number);
 }
 
-/// Law: what is kept stays right while tables come into use under new numbers and go out of use, and the files of those in
-/// use stay.
+/// Law: what is kept stays right while tables come into use under new numbers and go out of use,
+/// and the files of those in use stay.
 pub fn tables_last()
     ensures { TablesLast }
 {}

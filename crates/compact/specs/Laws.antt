@@ -5,13 +5,14 @@ use Rattle.ikey.specs.declared.entry.Entry.{Entry}
 use Rattle.compact.specs.Needed.{AreNeeded}
 use Rattle.ikey.specs.Views.{Among, Contents, IsView}
 
--- Of a key of these entries the others are newer, or the key is one that files below the output level cover.
+-- Of a key of these entries the others are newer, or the key is one that files below the output
+-- level cover.
 abbrev pub AreNewerOrDeep : List Entry → List Entry → (List ℕ → Bool) → Type 0
 AreNewerOrDeep entries others deep =
     (entry other : Entry) → Among entries entry → Among others other → other.key ≡ entry.key → (entry.sequence < other.sequence) ⊎ IsTrue (deep entry.key)
 
--- Of these entries a reader at this sequence sees what one of the sequences sees: it is one of them, or above the last of
--- them as all entries aren't.
+-- Of these entries a reader at this sequence sees what one of the sequences sees: it is one of
+-- them, or above the last of them as all entries aren't.
 abbrev pub SeesAsOne : List Entry → List ℕ → ℕ → Type 0
 SeesAsOne entries sequences p =
     (q : ℕ) × Contains sequences q × (q ≤ p) × ((entry : Entry) → Among entries entry → entry.sequence ≤ p → entry.sequence ≤ q)

@@ -1,5 +1,5 @@
--- The entries that a compaction must keep (LevelDB's doc/impl.md, "Compactions", and its db/db_impl.cc,
--- DoCompactionWork).
+-- The entries that a compaction must keep (LevelDB's doc/impl.md, "Compactions", and its
+-- db/db_impl.cc, DoCompactionWork).
 use Rattle.std.specs.Prelude.{◌≡◌, ◌<◌, ◌⊎◌, ℕ, Bool, None, IsTrue, IsSome, List, Contains}
 use Rattle.ikey.specs.declared.entry.Entry.{Entry}
 use Rattle.compact.specs.Lists.{IsPartWith}
@@ -16,8 +16,9 @@ pub record IsOlderPut (entries : List Entry) (sequences : List ℕ) (entry put :
   pub is_put : IsSome put.value
   pub visible : IsSeenBySome entries sequences put
 
--- The entry is to be kept, where `deep` are the keys that a file below the output level covers: some of the sequences
--- sees it, and if it is a delete, there may still be something for it to hide.
+-- The entry is to be kept, where `deep` are the keys that a file below the output level covers:
+-- some of the sequences sees it, and if it is a delete, there may still be something for it to
+-- hide.
 pub record IsNeeded (entries : List Entry) (sequences : List ℕ) (deep : List ℕ → Bool) (entry : Entry) : Type 0 where
   pub visible : IsSeenBySome entries sequences entry
   pub hides : entry.value ≡ None → IsTrue (deep entry.key) ⊎ ((put : Entry) × IsOlderPut entries sequences entry put)

@@ -56,8 +56,8 @@ impl<K: KeyOrder> NewTable<K> {
     ghost use Rattle.table.specs.Writing.{Writes, NeedsLongBlock, NeedsLongEnds};
     ghost use Rattle.compact.specs.Outputs.{table_name, IsFilling, IsSaidOf, IsSynced, ClosesTable, RefusesEntry};
 
-    /// A table of this number without entries, of which nothing is written yet. The first entry is to have the smallest
-    /// key.
+    /// A table of this number without entries, of which nothing is written yet. The first entry is
+    /// to have the smallest key.
     pub fn new(
         alloc: Global,
         number: u64,
@@ -85,8 +85,8 @@ impl<K: KeyOrder> NewTable<K> {
         self.number
     }
 
-    /// Adds an entry. Corrupt where its key isn't an internal key above the last one's. After an `Err` the table is of no
-    /// use.
+    /// Adds an entry. Corrupt where its key isn't an internal key above the last one's. After an
+    /// `Err` the table is of no use.
     pub fn add<S: Store>(&mut self, store: &mut S, key: &[u8], value: &[u8]) -> Result<(), DbError>
         ensures number { self.new.number ≡ self.old.number }
         ensures named { self.new.building.name ≡ table_name self.new.number }
@@ -110,8 +110,8 @@ impl<K: KeyOrder> NewTable<K> {
         Ok(())
     }
 
-    /// Whether the table ends before an entry of this user key: its data blocks have so many bytes, and its last entry is
-    /// of another user key.
+    /// Whether the table ends before an entry of this user key: its data blocks have so many bytes,
+    /// and its last entry is of another user key.
     pub fn ends_before(&self, user: &[u8], file_bytes: u64) -> bool
         ensures { MatchBool result ((file_bytes ≤ data_size self.now.building)
             × ((key : Key) → IsKey self.now.largest key → key.user ≢ user.now))

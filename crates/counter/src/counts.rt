@@ -88,8 +88,8 @@ pub fn increment<S: Store, K: KeyOrder>(
     }
 }
 
-/// Counts each of these names, in their order, until one is refused; and answers how many were counted, and why it ended. Exactly
-/// these were: each that was accepted is there, and no other.
+/// Counts each of these names, in their order, until one is refused; and answers how many were
+/// counted, and why it ended. Exactly these were: each that was accepted is there, and no other.
 pub fn count_each<S: Store, K: KeyOrder>(
     alloc: Global,
     db: &mut Db<S, K>,

@@ -30,7 +30,8 @@ abbrev pub KeysRise : Cmp → List Pair → Type 0
 KeysRise cmp [] = Unit {0}
 KeysRise cmp (pair ∷ pairs) = AllByRecursion (λ (later : Pair). cmp pair.key later.key ≡ Less) pairs × KeysRise cmp pairs
 
--- The view of the entries at a sequence, as a list: its keys rise, and its pairs are those of the visible entries and no others.
+-- The view of the entries at a sequence, as a list: its keys rise, and its pairs are those of the
+-- visible entries and no others.
 pub record IsViewList (cmp : Cmp) (entries : List InternalEntry) (sequence : ℕ) (pairs : List Pair) : Type 0 where
   pub rises : KeysRise cmp pairs
   pub found : (pair : Pair) → HasPair pairs pair → (entry : InternalEntry) × IsVisible entries sequence entry × (pair ≡ shown entry)

@@ -21,11 +21,11 @@ use ikey::KeyOrder;
 use std::alloc::{AllocError, Global};
 use std::marker::PhantomData;
 
-/// Cursors that are merged into one: their lists' union, in order, where no two share an internal key. It looks at each
-/// child for the next entry, which serves the few that a database has.
+/// Cursors that are merged into one: their lists' union, in order, where no two share an internal
+/// key. It looks at each child for the next entry, which serves the few that a database has.
 ///
-/// Each child knows on which side of the merge's entry it stands, so that a turn moves it by one step, and looks for no
-/// key.
+/// Each child knows on which side of the merge's entry it stands, so that a turn moves it by one
+/// step, and looks for no key.
 #[derive(Drop)]
 pub struct Merge<K: KeyOrder, C> {
     children: Vec<Child<C>>,
@@ -62,7 +62,8 @@ impl<K: KeyOrder, C: Drop> Merge<K, C> {
     }
 }
 
-/// Law: where each cursor of a new merge stands nowhere in a list, the merge stands nowhere in the lists' union.
+/// Law: where each cursor of a new merge stands nowhere in a list, the merge stands nowhere in the
+/// lists' union.
 pub fn merge_begins<K: KeyOrder, S, C: Cursor<K, S>>(merge: &Merge<K, C>, source: &S)
     requires nowhere { merge.now.current ≡ None }
     requires astray { AllByRecursion (λ child. child.side ≡ Side.Astray) merge.now.children.items }

@@ -28,8 +28,8 @@ pub enum Position {
     Astray,
 }
 
-/// Has the cursor stand behind all entries of lower user keys, and in front of those that are older than the pair's or of
-/// higher user keys: not on the pair's own, which needn't be looked at again.
+/// Has the cursor stand behind all entries of lower user keys, and in front of those that are older
+/// than the pair's or of higher user keys: not on the pair's own, which needn't be looked at again.
 pub fn stand_ahead<K: KeyOrder, S, C: Cursor<K, S>>(
     cursor: &mut C,
     alloc: Global,

@@ -12,9 +12,9 @@ use std::alloc::{AllocError, Global};
 use std::marker::PhantomData;
 use std::mem;
 
-/// A walk over the live pairs at a sequence: of each user key the newest entry up to it, where that is a put. The cursor
-/// beneath lists all entries. An `Err` leaves the place and the key; the value can be asked for again once a move has
-/// succeeded.
+/// A walk over the live pairs at a sequence: of each user key the newest entry up to it, where that
+/// is a put. The cursor beneath lists all entries. An `Err` leaves the place and the key; the value
+/// can be asked for again once a move has succeeded.
 #[derive(Drop)]
 pub struct Visible<K: KeyOrder, C> {
     cursor: C,
@@ -43,7 +43,8 @@ impl<K: KeyOrder, C> Visible<K, C> {
     ghost use Rattle.cursor.specs.Standing.{bound_if};
     ghost use Rattle.cursor.specs.Walks.{IsWalk, IsPlacedWalk, HasStayed, key_before, value_at_hand, walk_after, walked};
 
-    /// A walk over what is visible at the sequence, below `SEQUENCE_END`. It stands nowhere, and takes no memory.
+    /// A walk over what is visible at the sequence, below `SEQUENCE_END`. It stands nowhere, and
+    /// takes no memory.
     pub fn new(alloc: Global, cursor: C, sequence: u64) -> Self
         requires { sequence < 2 ^ 56 }
         ensures cursor { result.cursor ≡ cursor }
@@ -61,7 +62,8 @@ impl<K: KeyOrder, C> Visible<K, C> {
         }
     }
 
-    /// Law: where the cursor beneath stands anywhere in a list, a new walk stands nowhere in the list of what is visible there.
+    /// Law: where the cursor beneath stands anywhere in a list, a new walk stands nowhere in the
+    /// list of what is visible there.
     pub fn begins<S>(&self, source: &S)
     where
         C: Cursor<K, S>,
@@ -118,7 +120,8 @@ impl<K: KeyOrder, C> Visible<K, C> {
         Ok(())
     }
 
-    /// Stands on the pair of the first user key that isn't below the target, or nowhere where there is none.
+    /// Stands on the pair of the first user key that isn't below the target, or nowhere where there
+    /// is none.
     pub fn seek<S>(&mut self, alloc: Global, source: &mut S, target: &[u8]) -> Result<(), DbError>
     where
         C: Cursor<K, S>,
@@ -203,8 +206,9 @@ impl<K: KeyOrder, C> Visible<K, C> {
         Ok(())
     }
 
-    /// Takes back the last move, where it succeeded: the walk stands again on the pair on which it stood before, or
-    /// nowhere, where it stood on none. It takes no memory; the value can be asked for again after the next move.
+    /// Takes back the last move, where it succeeded: the walk stands again on the pair on which it
+    /// stood before, or nowhere, where it stood on none. It takes no memory; the value can be asked
+    /// for again after the next move.
     pub fn take_back(&mut self, stood: bool)
         ensures cursor { self.new.cursor ≡ self.old.cursor }
         ensures sequence { self.new.sequence ≡ self.old.sequence }
@@ -249,7 +253,8 @@ impl<K: KeyOrder, C> Visible<K, C> {
         }
     }
 
-    // Finds the first pair from the cursor's entry on, past the user key at hand where the walk stands on one.
+    // Finds the first pair from the cursor's entry on, past the user key at hand where the walk
+    // stands on one.
     fn go_on<S>(&mut self, alloc: Global, source: &mut S, past: bool) -> Result<(), DbError>
     where
         C: Cursor<K, S>,
@@ -287,7 +292,8 @@ impl<K: KeyOrder, C> Visible<K, C> {
         Ok(())
     }
 
-    // Finds the last pair up to the cursor's entry, in front of the user key at hand where the walk stands on one.
+    // Finds the last pair up to the cursor's entry, in front of the user key at hand where the walk
+    // stands on one.
     fn go_back<S>(&mut self, alloc: Global, source: &mut S, past: bool) -> Result<(), DbError>
     where
         C: Cursor<K, S>,

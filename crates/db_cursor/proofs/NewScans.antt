@@ -140,7 +140,8 @@ cursors_of {C} children = map (λ (child : Child C). child.cursor) children
 pub cursor_at : {C : Type 0} (children : List (Child C)) (i : ℕ) (child : Child C) → slice_get children i ≡ Some child → slice_get (cursors_of children) i ≡ Some child.cursor
 cursor_at {C} children i child is = slice_get-map (λ (c : Child C). c.cursor) children i ∙ ap (option_map (λ (c : Child C). c.cursor)) is
 
--- a new cursor over a memory table that is read and no entries above the sequence, or over these tables
+-- a new cursor over a memory table that is read and no entries above the sequence, or over these
+-- tables
 abbrev pub IsNew : {K : Type 0} {g : _} → (ℕ → Type 0) → ℕ → List PlacedTable → SourceCursor K g → Type 0
 IsNew reads sequence tables (Memory cursor) = reads cursor.generation × (cursor.place.sequence ≤ sequence)
 IsNew reads sequence tables (Row cursor) = (cursor.here ≡ None) × (cursor.version.value.tables ≡ tables)
@@ -307,7 +308,8 @@ module _ {K : Type 0} {g : _} (order : Order) (whole : Whole) (tables : List Pla
       let others = rows_listed ranges cursors rest rows.1 in
       (here.0 ∷ others.0, (λ i. here.1 i ∷ others.1 i), (here.2, others.2))
 
-  -- The lists of all rows: their entries together are those of the places where the version is searched, in this turn, and each is sorted.
+  -- The lists of all rows: their entries together are those of the places where the version is
+  -- searched, in this turn, and each is sorted.
   abbrev pub Rows : List (SourceCursor K g) → Type 0
   Rows cursors = (lists : List (List InternalEntry)) × AllTwo Lists cursors lists × (joined (all_entries lists) ≡ joined (table_sources contents)) × AreSearched (all_entries lists) × AllByRecursion (AreSorted order) (all_entries lists)
 

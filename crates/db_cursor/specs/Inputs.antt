@@ -1,4 +1,5 @@
--- What a compaction reads: the tables of a version, and no memory table (LevelDB's db/version_set.cc, VersionSet::MakeInputIterator).
+-- What a compaction reads: the tables of a version, and no memory table (LevelDB's
+-- db/version_set.cc, VersionSet::MakeInputIterator).
 use Rattle.cursor.specs.declared.merge.Merge.{Merge}
 use Rattle.cursor.specs.Cuts.{Cut}
 use Rattle.cursor.specs.Merging.{AnyLimited, AnyTorn, KeepsAll}

@@ -1,4 +1,5 @@
-//! The cursors over the memory tables and the tables of a version (LevelDB's db/version_set.cc, Version::AddIterators).
+//! The cursors over the memory tables and the tables of a version (LevelDB's db/version_set.cc,
+//! Version::AddIterators).
 
 ghost use Rattle.std.specs.Prelude.{◌≡◌, ◌<◌, ◌≤◌, ◌+◌, ◌^◌, ◌++◌, ◌∷◌, ℕ, [], Some, None, length, map, OnOk, IfOk};
 ghost use Rattle.cursor.specs.Merging.{listed};
@@ -21,7 +22,8 @@ use std::alloc::{AllocError, Global};
 use std::rc::Rc;
 use versions::Version;
 
-/// Adds a cursor over the current memory table, and one over the sealed one, where there is one, up to a sequence.
+/// Adds a cursor over the current memory table, and one over the sealed one, where there is one, up
+/// to a sequence.
 pub fn add_memory<K: KeyOrder>(
     alloc: Global,
     cursors: &mut Vec<SourceCursor<K>>,

@@ -1,4 +1,5 @@
-//! A walk over the pairs of a view (LevelDB's db/db_iter.cc over db/db_impl.cc, DBImpl::NewInternalIterator).
+//! A walk over the pairs of a view (LevelDB's db/db_iter.cc over db/db_impl.cc,
+//! DBImpl::NewInternalIterator).
 
 use crate::beginning::{add_levels, add_memory, add_newest};
 use crate::source::Sources;
@@ -35,8 +36,9 @@ impl<K: KeyOrder> Scan<K> {
     ghost use Rattle.db_cursor.specs.Whole.{whole_in};
     ghost use Rattle.versions.specs.Levels as versions;
 
-    /// A scan over what the entries of the memory tables and of a version's tables put up to a sequence, up to the last one
-    /// that is used. It stands nowhere; nothing is read, and no table is opened. It reads no other tables than the version's.
+    /// A scan over what the entries of the memory tables and of a version's tables put up to a
+    /// sequence, up to the last one that is used. It stands nowhere; nothing is read, and no table
+    /// is opened. It reads no other tables than the version's.
     pub fn over<S: Store>(
         alloc: Global,
         source: &Sources<K, S>,
@@ -74,8 +76,9 @@ impl<K: KeyOrder> Scan<K> {
         })
     }
 
-    /// Stands on the pair of the least key, or nowhere where there is none. `Corrupt` only where a block of a faithful source to which it
-    /// came is torn, `Unsupported` there or where the file of one of its tables passes a limit of reading.
+    /// Stands on the pair of the least key, or nowhere where there is none. `Corrupt` only where a
+    /// block of a faithful source to which it came is torn, `Unsupported` there or where the file
+    /// of one of its tables passes a limit of reading.
     pub fn first<S: Store>(
         &mut self,
         alloc: Global,
@@ -97,7 +100,8 @@ impl<K: KeyOrder> Scan<K> {
         self.walk.last(alloc, source)
     }
 
-    /// Stands on the pair of the first key that isn't below the target, or nowhere where there is none.
+    /// Stands on the pair of the first key that isn't below the target, or nowhere where there is
+    /// none.
     pub fn seek<S: Store>(
         &mut self,
         alloc: Global,
@@ -134,8 +138,9 @@ impl<K: KeyOrder> Scan<K> {
         self.walk.prev(alloc, source)
     }
 
-    /// Takes back the last move, where it succeeded: the scan stands again on the pair on which it stood before, or nowhere, where
-    /// it stood on none. It takes no memory; the pair can be asked for again after the next move.
+    /// Takes back the last move, where it succeeded: the scan stands again on the pair on which it
+    /// stood before, or nowhere, where it stood on none. It takes no memory; the pair can be asked
+    /// for again after the next move.
     pub fn take_back(&mut self, stood: bool)
         ensures cursor { self.new.walk.cursor ≡ self.old.walk.cursor }
         ensures sequence { self.new.walk.sequence ≡ self.old.walk.sequence }
@@ -155,7 +160,8 @@ impl<K: KeyOrder> Scan<K> {
         self.walk.stands()
     }
 
-    /// A copy of the pair on which the scan stands, after a move that succeeded; nothing where it stands nowhere.
+    /// A copy of the pair on which the scan stands, after a move that succeeded; nothing where it
+    /// stands nowhere.
     pub fn pair<S: Store>(
         &self,
         alloc: Global,

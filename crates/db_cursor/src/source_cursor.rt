@@ -10,7 +10,8 @@ use std::alloc::Global;
 use store::Store;
 use table_access::Tables;
 
-/// A cursor over one of the memory tables, or over a row of tables of a version, of what an open database reads.
+/// A cursor over one of the memory tables, or over a row of tables of a version, of what an open
+/// database reads.
 #[derive(Drop)]
 pub enum SourceCursor<K: KeyOrder> {
     Memory(MemoriesCursor<K>),

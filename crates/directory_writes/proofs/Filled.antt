@@ -96,7 +96,8 @@ module _ (cmp : List ℕ → List ℕ → Ordering) (inserts : List Entry) where
       below_last front one later (Some (internal_key x.entry)) (λ other is. (let same : internal_key x.entry ≡ other = cc in subst P same next)) fits.1 rises.1 last e
 
   module _ (start : Building) (old : Facts) where
-    -- How far the entries were added: those in front are in the table, and the node is the first of the others.
+    -- How far the entries were added: those in front are in the table, and the node is the first of
+    -- the others.
     pub record HasAdded (builder : Building) (facts : Facts) (at : Option ℕ) (steps : ℕ) : Type 0 where
       pub front : List Placed
       pub back : List Placed

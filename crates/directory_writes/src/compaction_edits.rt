@@ -1,4 +1,5 @@
-//! What the edit of a finished compaction leaves of a directory (LevelDB's db/db_impl.cc, InstallCompactionResults).
+//! What the edit of a finished compaction leaves of a directory (LevelDB's db/db_impl.cc,
+//! InstallCompactionResults).
 
 ghost use Rattle.directory_writes.specs.internal.Compactions.{OutputsLaw, ReplacesLaw, JobFoldsLaw, JobDoneLaw};
 ghost use Rattle.directory_writes.specs.internal.Compactions.{UnusedLaw, JobPutLaw, JobApartLaw, DeepLaw};
@@ -18,8 +19,8 @@ pub fn job_folds_law()
     ensures { JobFoldsLaw }
 {}
 
-/// Law: the edit of a job that is done is a compaction of the directory: its outputs, with what must be kept of its inputs, are
-/// in the place of these.
+/// Law: the edit of a job that is done is a compaction of the directory: its outputs, with what
+/// must be kept of its inputs, are in the place of these.
 pub fn job_done_law()
     ensures { JobDoneLaw }
 {}
@@ -29,7 +30,8 @@ pub fn unused_law()
     ensures { UnusedLaw }
 {}
 
-/// Law: with the edit behind the MANIFEST the directory is consistent, and readers see what they saw.
+/// Law: with the edit behind the MANIFEST the directory is consistent, and readers see what they
+/// saw.
 pub fn job_put_law()
     ensures { JobPutLaw }
 {}

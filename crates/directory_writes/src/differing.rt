@@ -1,8 +1,10 @@
-//! Directories that differ in their tables alone, as a damaged one and each from which its files may come.
+//! Directories that differ in their tables alone, as a damaged one and each from which its files
+//! may come.
 
 ghost use Rattle.directory_writes.specs.internal.Each.{AppendsEachLaw, AppendsEditEachLaw, EachFileLaw, FreeEachLaw, FreeFileLaw, OneChangeLaw, SameChangeLaw, SameFileLaw, WritesEachLaw, WritesTablesEachLaw};
 
-/// Law: each change can be done to each directory that differs in tables alone, and what it leaves differs in tables alone again.
+/// Law: each change can be done to each directory that differs in tables alone, and what it leaves
+/// differs in tables alone again.
 pub fn same_change_law()
     ensures { SameChangeLaw }
 {}

@@ -1,5 +1,5 @@
-//! A flush: a sealed memory table becomes a table file, in place of the logs in front of the current one (LevelDB's
-//! db/db_impl.cc, DBImpl::CompactMemTable).
+//! A flush: a sealed memory table becomes a table file, in place of the logs in front of the
+//! current one (LevelDB's db/db_impl.cc, DBImpl::CompactMemTable).
 
 ghost use Rattle.std.specs.Prelude.{◌≡◌, ◌<◌, ◌^◌, ℕ, List, [], IfOk, IfErr, IsTrue, OnOk, length, string_bytes};
 ghost use Rattle.edits.specs.Layout.{after_edit};
@@ -75,10 +75,11 @@ pub struct Prepared<K: KeyOrder> {
     pub version: Rc<Version<K>>,
 }
 
-/// Draws a number, writes the entries of a memory table, which has some, into the table of that number, and puts an edit behind the
-/// MANIFEST that has this table at level 0 in place of all logs in front of the current one. All growth comes before the edit.
-/// Refused before it out of memory, with Io where the store fails, with NumbersSpent, as Unsupported where a block would have
-/// more than 2^30 bytes, and as Corrupt where the version has a table of the number that is next.
+/// Draws a number, writes the entries of a memory table, which has some, into the table of that
+/// number, and puts an edit behind the MANIFEST that has this table at level 0 in place of all logs
+/// in front of the current one. All growth comes before the edit. Refused before it out of memory,
+/// with Io where the store fails, with NumbersSpent, as Unsupported where a block would have more
+/// than 2^30 bytes, and as Corrupt where the version has a table of the number that is next.
 pub fn flush_memory<K: KeyOrder, S: Store>(
     alloc: Global,
     store: &mut S,

@@ -1,4 +1,5 @@
-//! The end of a job: its outputs come in the place of its inputs (LevelDB's db/db_impl.cc, InstallCompactionResults).
+//! The end of a job: its outputs come in the place of its inputs (LevelDB's db/db_impl.cc,
+//! InstallCompactionResults).
 
 ghost use Rattle.std.specs.Prelude.{◌≡◌, ◌⊎◌, ◌<◌, ◌^◌, [], IfOk, IfErr, IsTrue, OnOk, string_bytes};
 ghost use Rattle.std.specs.FinMap.{get};
@@ -44,10 +45,11 @@ pub struct PreparedJob<K: KeyOrder> {
     pub version: Rc<Version<K>>,
 }
 
-/// Ends a job whose inputs have ended, and puts its edit behind the MANIFEST, so that its outputs are in the place of its
-/// inputs. All growth comes before the edit. Refused before it out of memory, with Io where the store fails, as Unsupported where
-/// a block of the last table would be too long, and as Corrupt where the version isn't that of the inputs. After a refusal the
-/// job is given up: the files that it wrote are no part of the database.
+/// Ends a job whose inputs have ended, and puts its edit behind the MANIFEST, so that its outputs
+/// are in the place of its inputs. All growth comes before the edit. Refused before it out of
+/// memory, with Io where the store fails, as Unsupported where a block of the last table would be
+/// too long, and as Corrupt where the version isn't that of the inputs. After a refusal the job is
+/// given up: the files that it wrote are no part of the database.
 pub fn install_job<K: KeyOrder, C: Drop, S: Store>(
     alloc: Global,
     store: &mut S,

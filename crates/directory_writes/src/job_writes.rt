@@ -18,7 +18,8 @@ pub fn job_writes_each_law()
     ensures { JobWritesEachLaw }
 {}
 
-/// Law: what a job has written, it has in each such directory in which its tables have the same files.
+/// Law: what a job has written, it has in each such directory in which its tables have the same
+/// files.
 pub fn merging_each_law()
     ensures { MergingEachLaw }
 {}

@@ -1,5 +1,6 @@
-//! What an open database does to its directory while it serves: it puts edits behind the MANIFEST, begins logs, writes its memory
-//! into tables, and removes files that aren't live (LevelDB's doc/impl.md).
+//! What an open database does to its directory while it serves: it puts edits behind the MANIFEST,
+//! begins logs, writes its memory into tables, and removes files that aren't live (LevelDB's
+//! doc/impl.md).
 #![tactic(auto)]
 
 mod calls;

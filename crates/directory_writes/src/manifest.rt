@@ -30,9 +30,10 @@ pub struct CurrentManifest {
     pub end: u64,
 }
 
-/// Puts an edit behind the MANIFEST with one append and a sync, and answers where it ends then (LevelDB's
-/// db/version_set.cc, VersionSet::LogAndApply). All memory is taken before the store is touched. Refused only out of
-/// memory, and with Io where the store fails: the edit is there or not then.
+/// Puts an edit behind the MANIFEST with one append and a sync, and answers where it ends then
+/// (LevelDB's db/version_set.cc, VersionSet::LogAndApply). All memory is taken before the store is
+/// touched. Refused only out of memory, and with Io where the store fails: the edit is there or not
+/// then.
 pub fn append_edit<S: Store>(
     alloc: Global,
     store: &mut S,

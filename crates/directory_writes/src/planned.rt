@@ -1,9 +1,10 @@
-//! What a plan takes of the tables of a directory (LevelDB's db/version_set.cc, `VersionSet::PickCompaction`), until its job
-//! is done.
+//! What a plan takes of the tables of a directory (LevelDB's db/version_set.cc,
+//! `VersionSet::PickCompaction`), until its job is done.
 
 ghost use Rattle.directory_writes.specs.internal.Planned.{PlannedLaw, ClosedPlanLaw, FlushedPlanLaw, PlannedApartLaw, OwnSequencesLaw};
 
-/// Law: each plan for a version of a directory takes tables that may be replaced by the outputs of its job.
+/// Law: each plan for a version of a directory takes tables that may be replaced by the outputs of
+/// its job.
 pub fn planned_law()
     ensures { PlannedLaw }
 {}

@@ -25,8 +25,8 @@ use std::alloc::{AllocError, Global};
 use store::{Store, StoreError};
 use versions::LiveNumbers;
 
-/// Which tables are in use: those of the current version, of open iterators' versions, and those that a compaction under way reads or has
-/// written (`engine`'s `readers.rt` answers it).
+/// Which tables are in use: those of the current version, of open iterators' versions, and those
+/// that a compaction under way reads or has written (`engine`'s `readers.rt` answers it).
 pub trait LiveTables {
     ghost has: { Self → ℕ → Type 0 };
 
@@ -40,15 +40,17 @@ pub trait LiveTables {
 pub struct Removal {
     /// Whether all files of a known shape are gone that aren't live.
     pub complete: bool,
-    /// The numbers of the tables that aren't in use, once for each of their files that was there, and of those that had a file under both names:
-    /// whatever of them is open has to be closed.
+    /// The numbers of the tables that aren't in use, once for each of their files that was there,
+    /// and of those that had a file under both names: whatever of them is open has to be closed.
     pub tables: Vec<u64>,
 }
 
-/// Removes each file of a known shape that isn't live (LevelDB's db/db_impl.cc, DBImpl::RemoveObsoleteFiles). One that can't
-/// be removed is left for the next time. Of a table that has both names the file with the newer one, which is the one that is
-/// read, goes last, and stays where the table is in use: so nobody reads other bytes under its number. Refused only where the files can't be listed: out of memory, and with Io where
-/// the store fails; nothing is removed then.
+/// Removes each file of a known shape that isn't live (LevelDB's db/db_impl.cc,
+/// DBImpl::RemoveObsoleteFiles). One that can't be removed is left for the next time. Of a table
+/// that has both names the file with the newer one, which is the one that is read, goes last, and
+/// stays where the table is in use: so nobody reads other bytes under its number. Refused only
+/// where the files can't be listed: out of memory, and with Io where the store fails; nothing is
+/// removed then.
 pub fn remove_files<S: Store, L: LiveTables>(
     alloc: Global,
     store: &mut S,
@@ -149,7 +151,8 @@ fn older_number(file: FileName) -> Option<u64>
     }
 }
 
-// The numbers of the tables that have a file under both names, where these are the numbers of those with the older one.
+// The numbers of the tables that have a file under both names, where these are the numbers of those
+// with the older one.
 fn doubled_tables(alloc: Global, names: &[String], older: &[u64]) -> Result<Vec<u64>, AllocError>
     ensures { IfOk result (λ numbers. AreBoth older.now (map string_bytes names.now) numbers.items) }
 {
@@ -199,7 +202,8 @@ fn newer_number(file: FileName) -> Option<u64>
     }
 }
 
-// The numbers of the tables that aren't in use, once for each of these that is the name of their file, and those that have both.
+// The numbers of the tables that aren't in use, once for each of these that is the name of their
+// file, and those that have both.
 fn tables_to_close<L: LiveTables>(
     alloc: Global,
     names: &[String],
@@ -263,8 +267,8 @@ fn table_number(file: FileName) -> Option<u64>
     }
 }
 
-// Removes each of these that isn't live: first all but the newer files of tables that have two, and then, where nothing of the
-// others is left, these. Whether all are gone.
+// Removes each of these that isn't live: first all but the newer files of tables that have two, and
+// then, where nothing of the others is left, these. Whether all are gone.
 fn remove_listed<S: Store, L: LiveTables>(
     store: &mut S,
     names: &[String],

@@ -6,7 +6,8 @@ use coding::Bytes;
 /// The levels are 0 to 6 (LevelDB's db/dbformat.h, `kNumLevels`).
 pub const LEVELS: u32 = 7;
 
-/// The files that make up a database, and the numbers that go with them (LevelDB's db/version_set.h, `VersionSet`).
+/// The files that make up a database, and the numbers that go with them (LevelDB's
+/// db/version_set.h, `VersionSet`).
 #[derive(Debug, Drop)]
 pub struct Layout {
     /// Logs of this number and above are live.

@@ -8,8 +8,8 @@ ghost use Rattle.edits.specs.declared.names.FileName.{FileName as FileNameValue}
 
 use std::alloc::{AllocError, Global};
 
-/// What a file is, and its number where its name has one (LevelDB's db/filename.h, `FileType`). Numbers are
-/// from 1 on.
+/// What a file is, and its number where its name has one (LevelDB's db/filename.h, `FileType`).
+/// Numbers are from 1 on.
 #[derive(Clone, Copy, Debug, PartialEq, Eq)]
 pub enum FileName {
     /// `CURRENT`, which names the MANIFEST.
@@ -31,9 +31,9 @@ pub enum FileName {
 // Names have at least this many digits, with zeros in front.
 const DIGITS: usize = 6;
 
-/// What a name says of its file (LevelDB's db/filename.cc, `ParseFileName`), or `None` where it has no known
-/// shape. Numbers are read as they are written: in decimal, from 1 to 2^64 - 1, with six digits, or with
-/// more and no zero in front.
+/// What a name says of its file (LevelDB's db/filename.cc, `ParseFileName`), or `None` where it has
+/// no known shape. Numbers are read as they are written: in decimal, from 1 to 2^64 - 1, with six
+/// digits, or with more and no zero in front.
 pub fn parse_name(name: &[u8]) -> Option<FileName>
     ensures found { IfSome result (λ file. IsFileName file × (name.now ≡ name_of file)) }
     ensures none { IfNone result ((file : FileNameValue) → IsFileName file → name.now ≡ name_of file → ⊥) }
@@ -117,8 +117,8 @@ fn value_of(digits: &[u8]) -> Option<u64>
     Some(value)
 }
 
-/// The name of a file (LevelDB's db/filename.cc, `MakeFileName`, `DescriptorFileName` and the like). It is
-/// refused only where memory runs out.
+/// The name of a file (LevelDB's db/filename.cc, `MakeFileName`, `DescriptorFileName` and the
+/// like). It is refused only where memory runs out.
 pub fn print_name(alloc: Global, file: FileName) -> Result<String, AllocError>
     requires { IsFileName file }
     ensures { IfOk result (λ name. string_bytes name ≡ name_of file) }

@@ -1,4 +1,5 @@
-//! The edit with which a new MANIFEST begins (LevelDB's db/version_set.cc, `VersionSet::WriteSnapshot`).
+//! The edit with which a new MANIFEST begins (LevelDB's db/version_set.cc,
+//! `VersionSet::WriteSnapshot`).
 
 ghost use Rattle.std.specs.Prelude.{◌≡◌, ◌<◌, ◌^◌, ◌++◌, ◌∷◌, List, [], ℕ, suc, length, map, All, Option, IfOk, OnOk};
 ghost use Rattle.std.specs.List.{AllByRecursion};
@@ -17,8 +18,9 @@ use coding::Bytes;
 use std::alloc::{AllocError, Global};
 
 /// The edit that alone leaves the tables and compact pointers of a layout, under these numbers
-/// (LevelDB's db/version_set.cc, `VersionSet::WriteSnapshot`). Its fields are in our writer's order, and
-/// the previous log number is among them only where it isn't 0. It is refused only where memory runs out.
+/// (LevelDB's db/version_set.cc, `VersionSet::WriteSnapshot`). Its fields are in our writer's
+/// order, and the previous log number is among them only where it isn't 0. It is refused only where
+/// memory runs out.
 pub fn snapshot_edit(
     alloc: Global,
     comparator: &[u8],

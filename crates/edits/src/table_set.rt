@@ -10,8 +10,9 @@ use std::alloc::{AllocError, Global};
 use std::collections::{BTreeMap, BTreeSet};
 use std::marker::Model;
 
-// The tables so far, as the list that a layout has of them: by level and then by number. Whatever the order in which a
-// MANIFEST names them, a table goes in or out in a number of steps that is logarithmic in how many there are.
+// The tables so far, as the list that a layout has of them: by level and then by number. Whatever
+// the order in which a MANIFEST names them, a table goes in or out in a number of steps that is
+// logarithmic in how many there are.
 #[derive(Drop)]
 pub(crate) struct TableSet {
     // each under its level and its number

@@ -8,8 +8,8 @@ use crate::field::Field;
 use std::alloc::{AllocError, Global};
 use std::marker::Model;
 
-/// A change of the layout of the files: its fields in order, as the list of which contracts see it. It is
-/// one record of a MANIFEST.
+/// A change of the layout of the files: its fields in order, as the list of which contracts see it.
+/// It is one record of a MANIFEST.
 #[derive(Debug, Drop)]
 pub struct Edit {
     fields: Vec<Field>,

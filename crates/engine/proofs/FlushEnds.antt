@@ -163,7 +163,8 @@ module _ {K : Type 0} {g : _} (order : Order) (kept : (scan : Scan K g) → Scan
   abbrev Carried : Type 0
   Carried = IsTrue facts.faithful → CarriesBut old.facts facts (λ (q : List ℕ). q ≡ name_of (Table next))
 
-  -- a refusal before the edit leaves all that is synced, but for a table that has no number of one that is read
+  -- a refusal before the edit leaves all that is synced, but for a table that has no number of one
+  -- that is read
   unflushed_synced : IsTrue facts.faithful → Carried → (m : Machine) → IsServing order old before m → ((string_bytes state.directory.manifest.name ≡ name_of (Table next) → ⊥) → LeavesFile old.facts facts (string_bytes state.directory.manifest.name))
       → IsSyncedBut facts state.log drawn.directory state.version.value.tables
   unflushed_synced f carries m serving spares = elim draws_number [

@@ -1,4 +1,5 @@
--- What files hold goes on where they change in what isn't read, where an empty log is put behind the others, and where an open has replaced `CURRENT`.
+-- What files hold goes on where they change in what isn't read, where an empty log is put behind
+-- the others, and where an open has replaced `CURRENT`.
 use Rattle.std.proofs.Common.{◌≡◌, ◌≢◌, ◌⊎◌, ◌<◌, ◌≤◌, ◌+◌, ◌++◌, ◌∷◌, ℕ, true, List, [], Option, Some, None, cond, is_some, take, inl, inr, refl, sym, ap, subst, ◌∙◌, append_assoc, arith}
 use Rattle.std.specs.Cmp.Lexicographic.{nat_list_cmp_total}
 use Rattle.std.specs.FinMap.{get, insert, remove, contains_key, get-remove}

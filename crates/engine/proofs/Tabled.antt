@@ -1,4 +1,5 @@
--- Entries of which some lie in tables, and the newer ones in the logs: what a read of both answers, and what a write adds.
+-- Entries of which some lie in tables, and the newer ones in the logs: what a read of both answers,
+-- and what a write adds.
 use Rattle.std.proofs.Common.{◌≡◌, inl, inr, ℕ, ◌+◌, ◌<◌, ◌≤◌, Option, Some, None, List, [], ◌∷◌, ◌++◌, length, unwrap_or, refl, subst, append_assoc, arith}
 use Rattle.std.specs.BTreeMap.{BTreeMap}
 use Rattle.std.specs.List.{AllByRecursion}

@@ -1,4 +1,5 @@
--- What an open database is, and the machine, when files were removed or a new log was begun, however that ends.
+-- What an open database is, and the machine, when files were removed or a new log was begun,
+-- however that ends.
 use Rattle.std.proofs.Common.{◌≡◌, ◌≢◌, ◌⊎◌, ℕ, ◌+◌, ◌≤◌, ◌<◌, true, false, List, [], ◌∷◌, ◌++◌, map, length, Some, None, Result, Ok, Err, IsTrue, inl, inr, refl, ap, subst, ◌∙◌, arith, String, string_bytes}
 use Rattle.std.specs.FinMap.{get}
 use Rattle.std.specs.declared.alloc.Global.{Global}

@@ -30,6 +30,7 @@ IsTableUsed tables job iterators number = IsTableRead tables iterators number �
 abbrev pub IsMemoryUsed : {K : Type 0} {g : _} → BTreeMap ℕ (Scan K g) → ℕ → Type 0
 IsMemoryUsed iterators generation = AnyIterator iterators (λ scan. reads_memory scan generation)
 
--- beside the current memory table none is there but the sealed one and those that open iterators read
+-- beside the current memory table none is there but the sealed one and those that open iterators
+-- read
 abbrev pub HasUsedMemory : {K : Type 0} {g : _} → Memories → BTreeMap ℕ (Scan K g) → Type 0
 HasUsedMemory memory iterators = (generation : ℕ) → ((memory.sealed ≡ Some generation) ⊎ IsMemoryUsed iterators generation → ⊥) → older_at memory.older generation ≡ None

@@ -12,8 +12,9 @@ use Rattle.opening.specs.declared.directory.DirectoryState.{DirectoryState}
 use Rattle.opening.specs.declared.directory.CurrentLog.{CurrentLog}
 use Rattle.engine.specs.declared.state.DbState.{DbState}
 
--- Its memory tables, the tables of its version and the compact pointers, the log that writes go to, what it knows of its directory beside, the compaction that is
--- under way, if one is, the last sequence that each live snapshot sees, the open iterators, and whether it is broken.
+-- Its memory tables, the tables of its version and the compact pointers, the log that writes go to,
+-- what it knows of its directory beside, the compaction that is under way, if one is, the last
+-- sequence that each live snapshot sees, the open iterators, and whether it is broken.
 pub record OpenDb (K : Type 0) (g : _) : Type 0 where
   pub memory : Memories
   pub tables : List PlacedTable

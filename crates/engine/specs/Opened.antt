@@ -1,4 +1,5 @@
--- What an accepted open leaves of the files (LevelDB's db/db_impl.cc, DB::Open, which removes obsolete files).
+-- What an accepted open leaves of the files (LevelDB's db/db_impl.cc, DB::Open, which removes
+-- obsolete files).
 use Rattle.std.specs.Prelude.{◌≡◌, IsTrue, Option, Some}
 use Rattle.memtables.specs.Memories.{Memories}
 use Rattle.store.specs.Files.{Facts}

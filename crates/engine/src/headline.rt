@@ -22,8 +22,8 @@ use recover::{distinct_law, one_manifest};
 use std::alloc::Global;
 use store::Store;
 
-/// Law: there is a first machine of each directory that is empty or consistent, and so of each that `recover::check` finds good; and one that
-/// allows for damage.
+/// Law: there is a first machine of each directory that is empty or consistent, and so of each that
+/// `recover::check` finds good; and one that allows for damage.
 pub fn there_is_a_first()
     ensures { FirstLaw }
 {
@@ -47,8 +47,9 @@ fn ends()
     ensures { EndsLaw }
 {}
 
-/// Runs commands over a store in which no database is open, and puts their answers behind those that `sink` has. A database
-/// that is open at the end is closed. Where there is no memory for the answers, nothing is done.
+/// Runs commands over a store in which no database is open, and puts their answers behind those
+/// that `sink` has. A database that is open at the end is closed. Where there is no memory for the
+/// answers, nothing is done.
 pub fn run_over<S: Store, K: KeyOrder>(
     alloc: Global,
     store: S,

@@ -47,10 +47,11 @@ use std::collections::BTreeMap;
 use store::{Store, StoreError};
 use table_access::{empty_is_sound, sound_stays};
 
-/// Opens the database of a store: takes the lock, reads what is there, writes a new MANIFEST, `CURRENT` and a new log, has the device keep
-/// the logs that it found, and removes the files that aren't live. Where one can't be removed, or the store can't list them, they are left
-/// for the next time, and the open is accepted. A refusal releases the lock, and removes nothing. Nothing that was kept of tables before
-/// stays.
+/// Opens the database of a store: takes the lock, reads what is there, writes a new MANIFEST,
+/// `CURRENT` and a new log, has the device keep the logs that it found, and removes the files that
+/// aren't live. Where one can't be removed, or the store can't list them, they are left for the
+/// next time, and the open is accepted. A refusal releases the lock, and removes nothing. Nothing
+/// that was kept of tables before stays.
 pub fn open_store<K: KeyOrder, S: Store>(
     alloc: Global,
     source: &mut Sources<K, S>,
@@ -72,12 +73,14 @@ pub fn open_store<K: KeyOrder, S: Store>(
     ensures stops { IsTrue (S.facts source.new.tables.store).faithful → (ids : Ids) (m : Machine)
         → m.damaged ≡ false → StandsClosed (order_of K.name K.cmp) (S.facts source.old.tables.store) ids m
         → LeavesOnly (S.facts source.old.tables.store) (S.facts source.new.tables.store) (λ files. MeansAccepted (order_of K.name K.cmp) files m) }
-    // So does a loss of power, where the device has the names that were there, and it cuts no file short that was.
+    // So does a loss of power, where the device has the names that were there, and it cuts no file
+    // short that was.
     ensures loses { IsTrue (S.facts source.new.tables.store).faithful → (ids : Ids) (m : Machine)
         → m.damaged ≡ false → StandsClosed (order_of K.name K.cmp) (S.facts source.old.tables.store) ids m
         → ((name : List ℕ) → StaysNamed (S.facts source.old.tables.store) name)
         → LosesMeaning (order_of K.name K.cmp) (S.facts source.old.tables.store) (S.facts source.new.tables.store) m }
-    // And where each loss in front of it leaves the first of the batches, so does each in its middle.
+    // And where each loss in front of it leaves the first of the batches, so does each in its
+    // middle.
     ensures loses_on { (ids : Ids) → OpenLosesOn (order_of K.name K.cmp) (S.facts source.old.tables.store) (S.facts source.new.tables.store) ids }
     // The device has the logs that it found.
     ensures kept { IfOk result (λ state. IsTrue (S.facts source.new.tables.store).faithful
@@ -110,8 +113,8 @@ fn take_lock<S: Store>(store: &mut S) -> Result<(), DbError>
     }
 }
 
-// Opens it, while the lock is held, has the device keep the logs that it found, since who wrote them may not have, and removes the files that
-// aren't live.
+// Opens it, while the lock is held, has the device keep the logs that it found, since who wrote
+// them may not have, and removes the files that aren't live.
 fn open_and_clean<K: KeyOrder, S: Store>(
     alloc: Global,
     source: &mut Sources<K, S>,

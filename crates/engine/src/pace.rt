@@ -12,15 +12,15 @@ use ikey::KeyOrder;
 use std::alloc::Global;
 use store::Store;
 
-// How many entries of work each written operation brings along: it is merged a few times on its way down the levels. Where level 0 has
-// twice as many tables as bring a compaction about it brings more, as LevelDB lets writes wait a little there (its db/dbformat.h,
-// kL0_SlowdownWritesTrigger).
+// How many entries of work each written operation brings along: it is merged a few times on its way
+// down the levels. Where level 0 has twice as many tables as bring a compaction about it brings
+// more, as LevelDB lets writes wait a little there (its db/dbformat.h, kL0_SlowdownWritesTrigger).
 const SHARE: u32 = 6;
 
 const LARGE_SHARE: u32 = 24;
 
-// Operations bring their work along by groups of so many, or of so large a part of a memory table, since each piece of work lists the folder,
-// which costs more than a write.
+// Operations bring their work along by groups of so many, or of so large a part of a memory table,
+// since each piece of work lists the folder, which costs more than a write.
 const GROUP: u64 = 64;
 
 const PARTS: u64 = 16;
@@ -31,7 +31,8 @@ const MOST_OPERATIONS: usize = 1 << 20;
 /// Whether work keeps up with what is written.
 #[derive(Clone, Copy, Debug, PartialEq, Eq)]
 pub enum Pace {
-    /// The memory table that takes writes has fewer than `write_buffer` bytes, and level 0 at most three times `level0_files` tables.
+    /// The memory table that takes writes has fewer than `write_buffer` bytes, and level 0 at most
+    /// three times `level0_files` tables.
     KeepsUp,
     /// Work was refused for this. What was written is there.
     Refused(DbError),
@@ -48,8 +49,9 @@ impl<S: Store, K: KeyOrder> Db<S, K> {
     ghost use Rattle.engine.specs.declared.pace.Pace.TheVariants.{KeepsUp, Refused};
     ghost use Rattle.versions.specs.Levels.{tables_at};
 
-    /// Works until there is nothing left to do, by pieces of so many entries: no compaction is under way then, no level wants one (so level 0
-    /// has fewer files than `level0_files`), and memory has less than `write_buffer` bytes. What was done before a refusal stays done.
+    /// Works until there is nothing left to do, by pieces of so many entries: no compaction is
+    /// under way then, no level wants one (so level 0 has fewer files than `level0_files`), and
+    /// memory has less than `write_buffer` bytes. What was done before a refusal stays done.
     pub fn settle(&mut self, alloc: Global, budget: u32) -> Result<(), DbError>
         ensures step { FollowsDb (order_of K.name K.cmp) S.facts self.old self.new
             (λ m n. MatchResult result (λ done. OnlyDraws m n) (λ e. OnlyWorks m n)) }
@@ -83,11 +85,12 @@ impl<S: Store, K: KeyOrder> Db<S, K> {
         Some(self.state.version.level(level).len())
     }
 
-    /// Writes a batch, as `write` does, and then does its share of the work: behind each 64 operations, or each sixteenth of
-    /// `write_buffer`, six entries of it for each of these, or more where work lags behind, and as much more as it takes until work
-    /// keeps up. So a caller needs no `work` beside it, memory and level 0 are bounded, and a call takes longer instead (LevelDB's
-    /// db/db_impl.cc, DBImpl::MakeRoomForWrite, lets it wait). Refused as `write` is; that work was refused behind a batch that was
-    /// written is said by the `Pace`.
+    /// Writes a batch, as `write` does, and then does its share of the work: behind each 64
+    /// operations, or each sixteenth of `write_buffer`, six entries of it for each of these, or
+    /// more where work lags behind, and as much more as it takes until work keeps up. So a caller
+    /// needs no `work` beside it, memory and level 0 are bounded, and a call takes longer instead
+    /// (LevelDB's db/db_impl.cc, DBImpl::MakeRoomForWrite, lets it wait). Refused as `write` is;
+    /// that work was refused behind a batch that was written is said by the `Pace`.
     pub fn write_and_work(
         &mut self,
         alloc: Global,
@@ -101,7 +104,8 @@ impl<S: Store, K: KeyOrder> Db<S, K> {
         ensures refused { (error : DbError) → result ≡ Ok (Refused error) → MayRefuseWork error }
         ensures ids { db_ids_of self.new ≡ db_ids_of self.old }
         ensures opening { KeepsOpening self.old self.new }
-        // A stop in its middle leaves what was accepted, with the batch as a whole or without it, and a loss of power the first of it.
+        // A stop in its middle leaves what was accepted, with the batch as a whole or without it,
+        // and a loss of power the first of it.
         ensures stops { DbStopsWrite (order_of K.name K.cmp) S.facts batch.now self.old self.new }
         ensures loses { DbLosesWrite (order_of K.name K.cmp) S.facts batch.now self.old self.new }
         ensures found { DbKeepsFound (order_of K.name K.cmp) S.facts self.old self.new }
@@ -116,8 +120,9 @@ impl<S: Store, K: KeyOrder> Db<S, K> {
         Ok(self.keep_up(alloc, share))
     }
 
-    /// Works by pieces of so many entries, one at least, until work keeps up with what was written. A memory table that is sealed is written
-    /// into a table in the same call: the next write would have the device keep its log otherwise.
+    /// Works by pieces of so many entries, one at least, until work keeps up with what was written.
+    /// A memory table that is sealed is written into a table in the same call: the next write would
+    /// have the device keep its log otherwise.
     pub fn keep_up(&mut self, alloc: Global, budget: u32) -> Pace
         ensures step { FollowsDb (order_of K.name K.cmp) S.facts self.old self.new (WorksAtPace result) }
         // Over any store:
@@ -162,7 +167,8 @@ impl<S: Store, K: KeyOrder> Db<S, K> {
         self.state.version.level(0).len() as u64 <= 3 * self.options.level0_files()
     }
 
-    // Whether a group ends among the operations that were written last, so many, in front of which the memory table had so many bytes.
+    // Whether a group ends among the operations that were written last, so many, in front of which
+    // the memory table had so many bytes.
     fn ends_a_group(&self, operations: usize, before: u64) -> bool {
         let last = self.source.memory.last();
         let part = (self.options.write_buffer() / PARTS).max(1);

@@ -13,8 +13,8 @@ use std::alloc::{AllocError, Global};
 use std::cmp::Ordering;
 use store::Store;
 
-/// Which keys, in the order of a database: from one on, and in front of another (LevelDB's include/leveldb/db.h, `Range`). Where the one
-/// isn't in front of the other there are none.
+/// Which keys, in the order of a database: from one on, and in front of another (LevelDB's
+/// include/leveldb/db.h, `Range`). Where the one isn't in front of the other there are none.
 #[derive(Debug, Drop)]
 pub struct KeyRange {
     /// The first key that it has; `None` where there is none in front of it.
@@ -126,8 +126,8 @@ pub enum Stage {
     Over,
 }
 
-/// A walk over the pairs of a range. The database keeps an iterator for it until `Db::range_end` takes it back: it can't be dropped,
-/// so that a program which forgets one isn't compiled.
+/// A walk over the pairs of a range. The database keeps an iterator for it until `Db::range_end`
+/// takes it back: it can't be dropped, so that a program which forgets one isn't compiled.
 #[derive(Debug)]
 pub struct RangeWalk {
     id: u64,
@@ -196,8 +196,8 @@ impl<S: Store, K: KeyOrder> Db<S, K> {
     ghost use Rattle.engine.specs.Ranges.{Begins, Fills, MayRefuseScan, RefusesScan, SameWalk, Scans, Steps, next_motion};
     ghost use Rattle.engine.specs.StandsDb.{FollowsDb, KeepsOpening, db_ids_of, db_store_of, open_by};
 
-    /// Begins a walk over the pairs of a range, as they are now or at a snapshot. It takes an iterator, and goes on seeing the same
-    /// pairs whatever is written.
+    /// Begins a walk over the pairs of a range, as they are now or at a snapshot. It takes an
+    /// iterator, and goes on seeing the same pairs whatever is written.
     pub fn range(
         &mut self,
         alloc: Global,
@@ -224,7 +224,8 @@ impl<S: Store, K: KeyOrder> Db<S, K> {
         }
     }
 
-    /// The next pair of a walk, or None where all came. A refusal leaves the walk where it was: the next call tries the same pair again.
+    /// The next pair of a walk, or None where all came. A refusal leaves the walk where it was: the
+    /// next call tries the same pair again.
     pub fn range_next(
         &mut self,
         alloc: Global,
@@ -274,8 +275,8 @@ impl<S: Store, K: KeyOrder> Db<S, K> {
         }
     }
 
-    /// Puts the next pairs of a walk behind those that `sink` has, and no more than `limit`. Those that came before a refusal are there
-    /// too, and the walk stands behind them.
+    /// Puts the next pairs of a walk behind those that `sink` has, and no more than `limit`. Those
+    /// that came before a refusal are there too, and the walk stands behind them.
     pub fn range_fill(
         &mut self,
         alloc: Global,
@@ -306,7 +307,8 @@ impl<S: Store, K: KeyOrder> Db<S, K> {
         Ok(())
     }
 
-    /// Ends a walk, and gives up its iterator. Nothing is refused: what a broken database keeps for it goes when it is closed.
+    /// Ends a walk, and gives up its iterator. Nothing is refused: what a broken database keeps for
+    /// it goes when it is closed.
     pub fn range_end(&mut self, walk: RangeWalk)
         ensures step { FollowsDb (order_of K.name K.cmp) S.facts self.old self.new
             (λ m n. (answer : Answer) × Drops m walk.id answer n) }
@@ -324,8 +326,9 @@ impl<S: Store, K: KeyOrder> Db<S, K> {
         let _ = self.iter_release(id);
     }
 
-    /// The pairs of a range, as they are now or at a snapshot, in their order and no more than `limit`: for a range of which not too much
-    /// is asked, since all of them are in memory at once. The next ones are those of the range that starts behind the last key.
+    /// The pairs of a range, as they are now or at a snapshot, in their order and no more than
+    /// `limit`: for a range of which not too much is asked, since all of them are in memory at
+    /// once. The next ones are those of the range that starts behind the last key.
     pub fn scan(
         &mut self,
         alloc: Global,

@@ -1,5 +1,5 @@
-//! What an open database does beside its commands: the removal of files, flushes, and new logs (LevelDB's db/db_impl.cc,
-//! DBImpl::RemoveObsoleteFiles, CompactMemTable and MakeRoomForWrite).
+//! What an open database does beside its commands: the removal of files, flushes, and new logs
+//! (LevelDB's db/db_impl.cc, DBImpl::RemoveObsoleteFiles, CompactMemTable and MakeRoomForWrite).
 
 ghost use Rattle.std.specs.Prelude.{◌≡◌, ◌<◌, [], length, max, nat_eq, None, IsSome, false, if◌then◌else◌, IsTrue, IfErr, IfOk, Ok, OnErr, OnOk};
 ghost use Rattle.engine.specs.internal.Pieces.{ClosesTables, refused_as};
@@ -55,9 +55,10 @@ impl<K: KeyOrder> DbState<K> {
     ghost use Rattle.engine.specs.Working.{SealsMemory, WritesTable, work_answer};
     ghost use Rattle.engine.specs.internal.Pieces.{broken_by, flush_answer, settled_as, settled_by};
 
-    /// Removes the files that aren't live, and then does the first of these that there is to do: goes on with the compaction under
-    /// way by so many entries, one for 0; writes the sealed memory table into a table file; seals the memory table, where it has
-    /// `write_buffer` bytes, and begins a log; or begins the compaction that is most wanted, and goes on with it.
+    /// Removes the files that aren't live, and then does the first of these that there is to do:
+    /// goes on with the compaction under way by so many entries, one for 0; writes the sealed
+    /// memory table into a table file; seals the memory table, where it has `write_buffer` bytes,
+    /// and begins a log; or begins the compaction that is most wanted, and goes on with it.
     pub fn work<S: Store>(
         &mut self,
         alloc: Global,
@@ -71,7 +72,8 @@ impl<K: KeyOrder> DbState<K> {
         ensures breaks { self.old.broken ≡ false → BreaksLent S.facts source.old source.new self.new result }
         ensures caused { IsCausedIn (not_serving (open_status no_ids (open_db source.old.memory self.old))) source.old.tables.store source.new.tables.store result }
         ensures does { DoesWork K.cmp options.now budget (open_db source.old.memory self.old) (open_db source.new.memory self.new) result }
-        // While the store is faithful, a compaction is at its end exactly where no more entries were left than the budget has.
+        // While the store is faithful, a compaction is at its end exactly where no more entries
+        // were left than the budget has.
         ensures within { EndsWithin (order_of K.name K.cmp) options.now budget (seen_of S.facts source.old)
             (seen_of S.facts source.new) (open_db source.old.memory self.old) (open_db source.new.memory self.new) result }
         // The table that it wrote of a sealed memory table has exactly that one's entries then.
@@ -81,7 +83,8 @@ impl<K: KeyOrder> DbState<K> {
         ensures tidy { result ≡ Ok Idle → IsTrue (S.facts source.new.tables.store).faithful
             → (S.facts source.new.tables.store).failures ≡ (S.facts source.old.tables.store).failures
             → HasLiveOnly (S.facts source.new.tables.store).files (open_db source.new.memory self.new) }
-        // They are exactly those that a database without work needs then: of the logs the one that writes go to.
+        // They are exactly those that a database without work needs then: of the logs the one that
+        // writes go to.
         ensures exact { LeavesExactlyLive (order_of K.name K.cmp) (seen_of S.facts source.old) (seen_of S.facts source.new)
             (open_db source.old.memory self.old) (open_db source.new.memory self.new) result }
         // Nor is a memory table kept then that is of no use.
@@ -102,8 +105,8 @@ impl<K: KeyOrder> DbState<K> {
         }
     }
 
-    /// Removes the files that aren't live, and lets go what is kept of them. What can't be removed is left for the next time; the
-    /// answer is whether nothing was.
+    /// Removes the files that aren't live, and lets go what is kept of them. What can't be removed
+    /// is left for the next time; the answer is whether nothing was.
     pub fn clean<S: Store>(
         &self,
         alloc: Global,
@@ -212,8 +215,8 @@ impl<K: KeyOrder> DbState<K> {
         Ok(Progress::Worked)
     }
 
-    /// Writes the sealed memory table into a table file. An empty one needs none. Where a write of the store fails, the
-    /// database is broken.
+    /// Writes the sealed memory table into a table file. An empty one needs none. Where a write of
+    /// the store fails, the database is broken.
     pub fn flush<S: Store>(
         &mut self,
         alloc: Global,
@@ -272,7 +275,8 @@ impl<K: KeyOrder> DbState<K> {
         }
     }
 
-    /// Seals the memory table, and begins a log for what is written from now on. Where a write of the store fails, the database is broken.
+    /// Seals the memory table, and begins a log for what is written from now on. Where a write of
+    /// the store fails, the database is broken.
     pub fn seal<S: Store>(
         &mut self,
         alloc: Global,
@@ -314,7 +318,8 @@ impl<K: KeyOrder> DbState<K> {
         }
     }
 
-    // What is new after a flush. The logs in front of the current one aren't read any more, so that none of them is to be synced.
+    // What is new after a flush. The logs in front of the current one aren't read any more, so that
+    // none of them is to be synced.
     fn take_flushed(&mut self, flushed: Flushed<K>)
         ensures state { self.new ≡ record
             self.old {
@@ -354,8 +359,8 @@ impl<K: KeyOrder> DbState<K> {
         }
     }
 
-    // How a refusal is answered before which so many writes of the store had failed. Where one has failed since, the answer is Io, and
-    // the database is broken.
+    // How a refusal is answered before which so many writes of the store had failed. Where one has
+    // failed since, the answer is Io, and the database is broken.
     pub(crate) fn refuse_since<S: Store>(
         &mut self,
         store: &S,
@@ -387,7 +392,8 @@ impl<K: KeyOrder> DbState<K> {
     }
 }
 
-// How the refusal of a piece is answered: want of memory, where a file couldn't be removed either, as a failure of the store.
+// How the refusal of a piece is answered: want of memory, where a file couldn't be removed either,
+// as a failure of the store.
 fn refusal(complete: bool, error: DbError) -> DbError
     ensures { result ≡ refused_as complete error }
 {

@@ -11,8 +11,8 @@ use std::process::Abort;
 use std::test::Fail;
 use store::{MemStore, Store};
 
-// What a script is answered in a session of the order `K`. Nothing is claimed of it, so that a caller's proof needn't read what is
-// claimed of `drive`.
+// What a script is answered in a session of the order `K`. Nothing is claimed of it, so that a
+// caller's proof needn't read what is claimed of `drive`.
 fn answers<K: KeyOrder>(
     alloc: Global,
     store: MemStore,

@@ -18,8 +18,8 @@ const D2: &[u8] = b"\x02\0\0\0\0\0\0\0\x01\0\0\0\0\x01a";
 
 const D3: &[u8] = b"\x03\0\0\0\0\0\0\0\x01\0\0\0\0\x01a";
 
-// A file, how many bytes of the table are there under which name, the records of the log 3, and the sequences and values
-// that are read.
+// A file, how many bytes of the table are there under which name, the records of the log 3, and the
+// sequences and values that are read.
 struct Case {
     origin: Origin,
     table: (&'static str, usize),

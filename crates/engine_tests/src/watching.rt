@@ -6,8 +6,9 @@ use std::alloc::Global;
 use std::cell::Cell;
 use store::{MemStore, Store, StoreError, Trouble};
 
-/// Files in memory. It counts the calls, but for those of the lock, the reads of tables, and the bytes that all reads gave. One call
-/// may be refused, a byte of what it returns be another one than was written, and files not be removed: so it isn't faithful.
+/// Files in memory. It counts the calls, but for those of the lock, the reads of tables, and the
+/// bytes that all reads gave. One call may be refused, a byte of what it returns be another one
+/// than was written, and files not be removed: so it isn't faithful.
 #[derive(Drop)]
 pub struct WatchedStore {
     inner: MemStore,
@@ -26,7 +27,8 @@ impl WatchedStore {
         WatchedStore::refusing(inner, 0)
     }
 
-    /// The same, where the call of this number, from 1 on, changes nothing and answers that the device failed.
+    /// The same, where the call of this number, from 1 on, changes nothing and answers that the
+    /// device failed.
     pub fn refusing(inner: MemStore, refused: u64) -> Self {
         WatchedStore {
             inner,
@@ -110,7 +112,8 @@ impl Store for WatchedStore {
 
     ghost told = { λ w. w.noted };
 
-    // Where a call is refused, a file that isn't there is removed, or synced by one that writes, which fails and is counted.
+    // Where a call is refused, a file that isn't there is removed, or synced by one that writes,
+    // which fails and is counted.
 
     fn failures(&self) -> u64 {
         self.inner.failures()

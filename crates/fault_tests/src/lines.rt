@@ -1,4 +1,5 @@
-//! The commands of scripts, over a few keys with values of a byte, and their answers in the same terms.
+//! The commands of scripts, over a few keys with values of a byte, and their answers in the same
+//! terms.
 use batch::Operation;
 use coding::{Bytes, DbError};
 use engine::{Answer, Mode, Op};

@@ -1,4 +1,5 @@
-//! A plain model of a database over a store that may fail: which answers it may give, and what it holds then.
+//! A plain model of a database over a store that may fail: which answers it may give, and what it
+//! holds then.
 use crate::lines::{Change, KEYS, Line, Map, Seen};
 use coding::DbError;
 use engine::Mode;
@@ -150,8 +151,8 @@ impl Model {
         self.doubt = None;
     }
 
-    /// The state behind a command that was answered so, or none where it may not be: Io comes where a call failed, and always where one did
-    /// that writes.
+    /// The state behind a command that was answered so, or none where it may not be: Io comes where
+    /// a call failed, and always where one did that writes.
     pub fn after(&self, line: Line, answer: Seen, failed: Failed) -> Option<Model> {
         let is_io = answer == Seen::Refused(DbError::Io);
         if is_io && failed == Failed::Nothing || !is_io && failed == Failed::Write {
@@ -250,7 +251,8 @@ impl Model {
         }
     }
 
-    // A failed write breaks the database, also in a step of a compaction. Any other failure leaves it as it was.
+    // A failed write breaks the database, also in a step of a compaction. Any other failure leaves
+    // it as it was.
     fn after_failure(&self, line: Line, failed: Failed) -> Option<Model> {
         match (line, failed) {
             (Line::Write(changes), Failed::Write) => {

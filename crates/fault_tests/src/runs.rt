@@ -20,7 +20,8 @@ pub fn session(alloc: Global, store: WatchedStore, sizes: Sizes) -> Result<Fault
     }
 }
 
-// Gives a command. Nothing is claimed of it, so that a caller's proof needn't read what is claimed of `apply`.
+// Gives a command. Nothing is claimed of it, so that a caller's proof needn't read what is claimed
+// of `apply`.
 fn given(alloc: Global, session: &mut Faulty, op: &Op) -> Answer {
     session.apply(alloc, op)
 }
@@ -45,7 +46,8 @@ fn failures_of(session: &Faulty) -> (u64, u64) {
     (session.store().failures(), session.store().failed_writes())
 }
 
-/// Whether everything was synced in front of what names it, and the store counted each failed write.
+/// Whether everything was synced in front of what names it, and the store counted each failed
+/// write.
 pub fn is_ordered(session: &Faulty) -> bool {
     !session.store().is_early()
         && session.store().write_failures() == session.store().failed_writes()
@@ -79,7 +81,8 @@ fn read_all(alloc: Global, session: &mut Faulty) -> Option<Map> {
     Some(map)
 }
 
-// Where a batch was in doubt and the database is open again, says whether it is there wholly or not at all.
+// Where a batch was in doubt and the database is open again, says whether it is there wholly or not
+// at all.
 fn settles(alloc: Global, session: &mut Faulty, model: &mut Model) -> bool {
     if !model.is_unsettled() {
         return true;
@@ -117,7 +120,8 @@ fn serves(alloc: Global, session: &mut Faulty, model: &mut Model, line: Line) ->
     true
 }
 
-/// Goes through a script, and answers how many lines were answered as the model allows before one that wasn't.
+/// Goes through a script, and answers how many lines were answered as the model allows before one
+/// that wasn't.
 pub fn run(alloc: Global, session: &mut Faulty, model: &mut Model, lines: &[Line]) -> usize {
     for (number, line) in lines.iter().enumerate() {
         if !serves(alloc, session, model, *line) {
@@ -127,8 +131,8 @@ pub fn run(alloc: Global, session: &mut Faulty, model: &mut Model, lines: &[Line
     lines.len()
 }
 
-/// Works until there is nothing left to do, or until the database is broken or closed, a hundred times at most. Says whether it came
-/// to that, with answers that the model allows.
+/// Works until there is nothing left to do, or until the database is broken or closed, a hundred
+/// times at most. Says whether it came to that, with answers that the model allows.
 pub fn rests(alloc: Global, session: &mut Faulty, model: &mut Model) -> bool {
     for _ in 0..100 {
         match step(alloc, session, model, Line::Work(9)) {

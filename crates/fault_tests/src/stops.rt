@@ -1,4 +1,5 @@
-//! The process stops at each call of the store: not at all done, wholly, and of an append with a beginning of its bytes.
+//! The process stops at each call of the store: not at all done, wholly, and of an append with a
+//! beginning of its bytes.
 use crate::endings::{are_left, remains_of};
 use crate::lines::Line;
 use crate::model::Model;
@@ -12,8 +13,8 @@ use store::{Extent, Fault, MemStore, Plan, Store};
 
 const SCRIPTS: [Script; 5] = [PUTS, ITERATOR, STEPS, SNAPSHOTS, LEVELS];
 
-// Goes through a script up to the line in which a call comes. Answers that line, or none where an answer before it isn't one that
-// the model allows. Behind the last line it is a close.
+// Goes through a script up to the line in which a call comes. Answers that line, or none where an
+// answer before it isn't one that the model allows. Behind the last line it is a close.
 fn stopped_in(
     alloc: Global,
     session: &mut Faulty,
@@ -52,7 +53,8 @@ struct Start {
     model: Model,
 }
 
-// What comes of a stop: the bytes that are left, how many calls there were, and whether the files are those that it may leave.
+// What comes of a stop: the bytes that are left, how many calls there were, and whether the files
+// are those that it may leave.
 #[derive(Clone, Copy)]
 struct Outcome {
     bytes: u64,

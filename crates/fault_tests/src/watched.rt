@@ -1,4 +1,5 @@
-//! A store in memory that fails where it is planned, and knows which of its calls did, and what was synced in front of what.
+//! A store in memory that fails where it is planned, and knows which of its calls did, and what was
+//! synced in front of what.
 ghost use Rattle.std.specs.Prelude.{◌≡◌};
 ghost use Rattle.store.specs.FaultFacts.{fault_facts};
 
@@ -47,8 +48,8 @@ impl WatchedStore {
         self.failed_writes
     }
 
-    /// Whether an edit was appended in front of the sync of the table that it names, or CURRENT replaced before that of the MANIFEST
-    /// or of itself.
+    /// Whether an edit was appended in front of the sync of the table that it names, or CURRENT
+    /// replaced before that of the MANIFEST or of itself.
     pub fn is_early(&self) -> bool {
         self.is_early
     }

@@ -9,7 +9,8 @@ type Given = (&'static [u8], Option<&'static [u8]>);
 // Put `a` = `1` at sequence 1.
 const ONE_PUT: [u8; 17] = [1, 0, 0, 0, 0, 0, 0, 0, 1, 0, 0, 0, 1, 1, 0x61, 1, 0x31];
 
-// Sequences, operations and their bytes. The last sequence is 2^56 - 1: a batch of one operation may have it.
+// Sequences, operations and their bytes. The last sequence is 2^56 - 1: a batch of one operation
+// may have it.
 const ENCODED: [(u64, &[Given], &[u8]); 5] = [
     (1, &[(b"a", Some(b"1"))], &ONE_PUT),
     (
@@ -143,8 +144,9 @@ fn long_values_have_long_lengths(rt: HostRuntime) -> Result<(), Fail> {
     Ok(())
 }
 
-// Where a byte of that put stands, what it becomes, and the damage that it makes: a sequence of 2^56, a count of
-// none, of two and of 2^24 + 1, a kind that isn't known, a delete, and lengths past the end.
+// Where a byte of that put stands, what it becomes, and the damage that it makes: a sequence of
+// 2^56, a count of none, of two and of 2^24 + 1, a kind that isn't known, a delete, and lengths
+// past the end.
 const CHANGES: [(usize, u8, Damage); 9] = [
     (7, 1, Damage::Number),
     (8, 0, Damage::Length),
@@ -236,7 +238,8 @@ fn longest_value(alloc: Global) -> Result<Vec<u8>, AllocError> {
     }
 }
 
-// To be run with each allocation failing in turn: one that is made for the second value would be answered otherwise.
+// To be run with each allocation failing in turn: one that is made for the second value would be
+// answered otherwise.
 #[test]
 fn a_second_longest_value_is_refused_before_it_is_copied(rt: HostRuntime) -> Result<(), Fail> {
     let value = longest_value(rt.alloc())?;

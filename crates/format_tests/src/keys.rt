@@ -89,7 +89,8 @@ fn user_keys_rise_and_sequences_fall(rt: HostRuntime) {
     }
 }
 
-// Those of seven bytes and more are each the front of the next, and then each once more with another last byte.
+// Those of seven bytes and more are each the front of the next, and then each once more with
+// another last byte.
 const RISING: [&[u8]; 30] = [
     b"",
     b"\0",
@@ -167,8 +168,8 @@ fn fronts_are_of_sixteen_bytes(rt: HostRuntime) {
     }
 }
 
-// A key, how much of it the next one shares, the next one's rest, and what a quick look says where both are plain
-// byte strings and where they are internal keys.
+// A key, how much of it the next one shares, the next one's rest, and what a quick look says where
+// both are plain byte strings and where they are internal keys.
 const LOOKS: [(&[u8], usize, &[u8], bool, bool); 6] = [
     (
         b"ab\x01\x07\0\0\0\0\0\0",

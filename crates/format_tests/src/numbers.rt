@@ -29,8 +29,9 @@ fn checksum_is_that_of_the_standard(rt: HostRuntime) {
     }
 }
 
-// Two parts, their checksum and its stored form: among them the fragment's type before a write batch that puts `1` under
-// `a` at sequence number 1, and before the version edit of a new database.
+// Two parts, their checksum and its stored form: among them the fragment's type before a write
+// batch that puts `1` under `a` at sequence number 1, and before the version edit of a new
+// database.
 const STORED: [(&[u8], &[u8], u32, &[u8]); 5] = [
     (b"123456789", b"", 0xE306_9283, b"\xe5\xb0\x8a\xc7"),
     (b"\x02", b"", 0xB346_23A6, b"\x64\x51\xd0\xe9"),

@@ -15,7 +15,8 @@ const COMPARATOR: &[u8] = b"leveldb.BytewiseComparator";
 // The internal key of put(61) at sequence number 1.
 const KEY: [u8; 9] = [0x61, 1, 1, 0, 0, 0, 0, 0, 0];
 
-// The edit of a flush: log 3, next file 5, last sequence 1, and the table 4 of 176 bytes at level 0.
+// The edit of a flush: log 3, next file 5, last sequence 1, and the table 4 of 176 bytes at level
+// 0.
 const FLUSH: [u8; 31] = [
     0x02, 0x03, 0x03, 0x05, 0x04, 0x01, 0x07, 0x00, 0x04, 0xB0, 0x01, 0x09, 0x61, 0x01, 0x01, 0, 0,
     0, 0, 0, 0, 0x09, 0x61, 0x01, 0x01, 0, 0, 0, 0, 0, 0,
@@ -312,7 +313,8 @@ const OTHER_ORDER: &[u8] = &[1, 1, b'c'];
 
 const OUR_ORDER: &[u8] = b"\x01\x1Aleveldb.BytewiseComparator";
 
-// The log numbers, the current one first, and the level and the number of each table; or the refusal.
+// The log numbers, the current one first, and the level and the number of each table; or the
+// refusal.
 type Left = Result<(u64, u64, &'static [(u32, u64)]), ReadError>;
 
 const ORDER: Left = Err(ReadError::Corrupt(Damage::Order));

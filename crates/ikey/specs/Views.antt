@@ -1,4 +1,5 @@
--- Entries as sets, and what a reader sees of them at a sequence (LevelDB's doc/index.md, "Snapshots").
+-- Entries as sets, and what a reader sees of them at a sequence (LevelDB's doc/index.md,
+-- "Snapshots").
 use Rattle.std.specs.Prelude.{◌≡◌, ◌⊎◌, ◌<◌, ◌≤◌, ℕ, Option, None, List, [], ◌∷◌}
 use Rattle.std.proofs.Common.{inl, inr, sym, ap, ◌∙◌}
 use Rattle.std.specs.Ordering.{nat_cmp}

@@ -7,8 +7,8 @@ ghost use Rattle.ikey.specs.Fronts.{IsFront, Decides};
 
 use std::cmp::Ordering;
 
-/// The number that the first sixteen bytes of a key spell, the first of which weighs most. A shorter key goes on with
-/// zeroes.
+/// The number that the first sixteen bytes of a key spell, the first of which weighs most. A
+/// shorter key goes on with zeroes.
 #[derive(Clone, Copy)]
 pub struct Front {
     number: u128,
@@ -39,8 +39,8 @@ impl Front {
         Front { number }
     }
 
-    /// How two fronts compare: where they differ, so do the keys in the order of bytes, and also where both stand behind
-    /// the same bytes. Equal ones say nothing.
+    /// How two fronts compare: where they differ, so do the keys in the order of bytes, and also
+    /// where both stand behind the same bytes. Equal ones say nothing.
     #[inline(always)]
     pub fn compare_bytes(self, other: Self) -> Ordering
         ensures { Decides (slice_cmp nat_cmp) self other result }

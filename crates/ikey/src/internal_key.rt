@@ -32,8 +32,8 @@ pub struct InternalKey<'a> {
     pub kind: Kind,
 }
 
-/// The bytes of an internal key: the user key, and eight bytes with the sequence number and the kind
-/// (LevelDB's db/dbformat.h, AppendInternalKey). It fails only where memory does.
+/// The bytes of an internal key: the user key, and eight bytes with the sequence number and the
+/// kind (LevelDB's db/dbformat.h, AppendInternalKey). It fails only where memory does.
 pub fn pack(alloc: Global, user: &[u8], sequence: u64, kind: Kind) -> Result<Vec<u8>, AllocError>
     requires { sequence < 2 ^ 56 }
     ensures { IfOk result (λ bytes. IsKey bytes.items (record { user = user.now; sequence = sequence; kind = kind })) }
@@ -54,8 +54,9 @@ fn tag_of(sequence: u64, kind: Kind) -> u64
     }
 }
 
-/// The internal key that the bytes are, where they are one: they are none where there are fewer than eight,
-/// or the kind is neither 0 nor 1 (LevelDB's db/dbformat.h, ParseInternalKey). The user key is a part of the bytes.
+/// The internal key that the bytes are, where they are one: they are none where there are fewer
+/// than eight, or the kind is neither 0 nor 1 (LevelDB's db/dbformat.h, ParseInternalKey). The user
+/// key is a part of the bytes.
 pub fn unpack(bytes: &[u8]) -> Option<InternalKey<'_>>
     ensures range { IfSome result (λ key. key.sequence < 2 ^ 56) }
     ensures found { IfSome result (λ key. IsKey bytes.now (key_of key)) }
@@ -84,8 +85,8 @@ fn kind_of(number: u64) -> Option<Kind>
     }
 }
 
-/// The order of two internal keys by their bytes: the user keys up, and then the newer one first (LevelDB's
-/// db/dbformat.cc, InternalKeyComparator). None where one of them is no internal key.
+/// The order of two internal keys by their bytes: the user keys up, and then the newer one first
+/// (LevelDB's db/dbformat.cc, InternalKeyComparator). None where one of them is no internal key.
 pub fn compare_keys<K: KeyOrder>(a: &[u8], b: &[u8]) -> Option<Ordering>
     ensures { MatchOption result
         ((k l : Key) → IsKey a.now k → IsKey b.now l → ⊥)
@@ -99,8 +100,8 @@ pub fn compare_keys<K: KeyOrder>(a: &[u8], b: &[u8]) -> Option<Ordering>
     }
 }
 
-/// The first internal key of this user key whose sequence number is at most `sequence`, in whatever order of
-/// user keys (LevelDB's db/dbformat.cc, LookupKey). It fails only where memory does.
+/// The first internal key of this user key whose sequence number is at most `sequence`, in whatever
+/// order of user keys (LevelDB's db/dbformat.cc, LookupKey). It fails only where memory does.
 pub fn seek_key(alloc: Global, user: &[u8], sequence: u64) -> Result<Vec<u8>, AllocError>
     requires { sequence < 2 ^ 56 }
     ensures { IfOk result (λ bytes. IsFirstKey user.now sequence bytes.items) }

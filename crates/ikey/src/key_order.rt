@@ -28,16 +28,18 @@ pub trait KeyOrder {
     fn compare(a: &[u8], b: &[u8]) -> Ordering
         ensures { result ≡ cmp a.now b.now };
 
-    /// A quick look at the first byte of `rest`: true says that `a` is below the key of its first `shared` bytes and
-    /// `rest`, and false says nothing, which is what an order says that has no such look.
+    /// A quick look at the first byte of `rest`: true says that `a` is below the key of its first
+    /// `shared` bytes and `rest`, and false says nothing, which is what an order says that has no
+    /// such look.
     fn is_plainly_below(a: &[u8], shared: usize, rest: &[u8]) -> bool
         ensures { MatchBool result (cmp a.now (take shared a.now ++ rest.now) ≡ Less) ⊤ }
     {
         false
     }
 
-    /// A quick look at the fronts of two keys: Less and Greater say how these compare, and also how they do behind the same
-    /// bytes. Equal says nothing, which is what an order says that has no such look.
+    /// A quick look at the fronts of two keys: Less and Greater say how these compare, and also how
+    /// they do behind the same bytes. Equal says nothing, which is what an order says that has no
+    /// such look.
     fn compare_fronts(a: Front, b: Front) -> Ordering
         ensures { Decides cmp a b result }
     {

@@ -12,7 +12,8 @@ pub fn unseen_in_front()
     ensures { BehindLaw }
 {}
 
-/// Law: of sources each of which is newer than those behind it, the first that has an answer answers for all.
+/// Law: of sources each of which is newer than those behind it, the first that has an answer
+/// answers for all.
 pub fn first_found()
     ensures { FoundLaw }
 {}

@@ -1,5 +1,5 @@
--- Why a command is refused for what it asks and for what is open. It has at most one such refusal: the first of its causes, in the order
--- in which they stand here.
+-- Why a command is refused for what it asks and for what is open. It has at most one such refusal:
+-- the first of its causes, in the order in which they stand here.
 use Rattle.std.specs.Prelude.{ℕ, ◌+◌, ◌-◌, ◌^◌, nat_eq, nat_lt, if◌then◌else◌, Bool, true, false, Option, Some, None, is_some, List, [], ◌∷◌, length}
 use Rattle.std.specs.Map.{lookup}
 use Rattle.std.specs.Option.{option_or}

@@ -18,7 +18,8 @@ abbrev pub AllDiffer : List Entry → Type 0
 AllDiffer [] = Unit {0}
 AllDiffer (entry ∷ entries) = IsNew entries entry.key entry.sequence × AllDiffer entries
 
--- what a search for a user key has found: nothing where none of its entries is seen, and else what the newest one put
+-- what a search for a user key has found: nothing where none of its entries is seen, and else what
+-- the newest one put
 abbrev pub IsLookUp : List Entry → ℕ → List ℕ → Option (Option (Bor (List ℕ))) → Type 0
 IsLookUp entries sequence key None = IsUnseen entries sequence key
 IsLookUp entries sequence key (Some value) =

@@ -26,7 +26,8 @@ ListsMemories cmp cursor memories at = ListsMemoryTable cmp cursor.generation cu
 abbrev pub seen_by : Cmp → MemoryPlace → Contents → List Placed
 seen_by cmp place table = up_to place.sequence (ordered cmp table.inserts)
 
--- The table of its generation is there in both, with the same entries that the cursor lists at the same nodes, or in neither.
+-- The table of its generation is there in both, with the same entries that the cursor lists at the
+-- same nodes, or in neither.
 abbrev pub KeepsMemories : Cmp → MemoriesPlace → Memories → Memories → Type 0
 KeepsMemories cmp cursor old new =
     option_map (seen_by cmp cursor.place) (table_in old cursor.generation) ≡ option_map (seen_by cmp cursor.place) (table_in new cursor.generation)

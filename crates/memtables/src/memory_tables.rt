@@ -1,4 +1,5 @@
-//! The memory tables of an open database (LevelDB's db/memtable.h, and db/db_impl.h, DBImpl::mem_ and DBImpl::imm_).
+//! The memory tables of an open database (LevelDB's db/memtable.h, and db/db_impl.h, DBImpl::mem_
+//! and DBImpl::imm_).
 
 ghost use Rattle.std.specs.Prelude.{◌≡◌, ◌++◌, ◌∷◌, [], ◌⊎◌, Some, IfOk, IfSome, MatchBool, sum_by};
 ghost use Rattle.coding.specs.declared.error.DbError.TheVariants.{Corrupt};
@@ -19,9 +20,10 @@ use std::marker::Model;
 use std::mem;
 use table_access::MemoryCursor;
 
-/// The memory tables of an open database. Writes go to the current one; the sealed one, if there is one, waits to be written
-/// into a table file; and one that was written stays as long as an open iterator reads it. Each is known under a generation,
-/// a number that rises by one whenever the current one is sealed. No entry is above the last sequence that is used.
+/// The memory tables of an open database. Writes go to the current one; the sealed one, if there is
+/// one, waits to be written into a table file; and one that was written stays as long as an open
+/// iterator reads it. Each is known under a generation, a number that rises by one whenever the
+/// current one is sealed. No entry is above the last sequence that is used.
 #[derive(Drop)]
 pub struct MemoryTables<K: KeyOrder> {
     current: MemTable<K>,
@@ -82,7 +84,8 @@ impl<K: KeyOrder> MemoryTables<K> {
         }
     }
 
-    /// A current table of these entries, whose sequences rise, beside the last sequence used, and no other table.
+    /// A current table of these entries, whose sequences rise, beside the last sequence used, and
+    /// no other table.
     pub fn of(alloc: Global, entries: &[Entry], last: u64) -> Result<Self, AllocError>
         requires rising { RiseAbove 0 entries.now }
         requires bounded { greatest entries.now ≤ last }
@@ -106,8 +109,8 @@ impl<K: KeyOrder> MemoryTables<K> {
         self.last
     }
 
-    /// Law: no entry is above the last sequence, the older tables, among which the sealed one is, have lower generations, and the
-    /// current table's entries are newer than the sealed one's.
+    /// Law: no entry is above the last sequence, the older tables, among which the sealed one is,
+    /// have lower generations, and the current table's entries are newer than the sealed one's.
     pub fn are_bounded(&self)
         ensures { AreMemories self.now }
     {
@@ -143,9 +146,10 @@ impl<K: KeyOrder> MemoryTables<K> {
         self.current.is_empty()
     }
 
-    /// A copy of what the newest entry of a user key up to a sequence put, among those of the current table and of the sealed
-    /// one: nothing where no entry of the key is up to it, and `Some(None)` where it was deleted. The current table is
-    /// searched first, since its entries are the newer ones.
+    /// A copy of what the newest entry of a user key up to a sequence put, among those of the
+    /// current table and of the sealed one: nothing where no entry of the key is up to it, and
+    /// `Some(None)` where it was deleted. The current table is searched first, since its entries
+    /// are the newer ones.
     pub fn value(
         &self,
         alloc: Global,
@@ -180,8 +184,8 @@ impl<K: KeyOrder> MemoryTables<K> {
         Ok(())
     }
 
-    /// Adds the entries of a batch to the current table, behind the last sequence, in room that is there: it takes no memory,
-    /// and can't fail.
+    /// Adds the entries of a batch to the current table, behind the last sequence, in room that is
+    /// there: it takes no memory, and can't fail.
     pub fn add_batch(&mut self, operations: &[Operation])
         requires room { HasRoom self.old operations.now }
         requires fits { self.old.last + length operations.now < 2 ^ 56 }
@@ -193,9 +197,9 @@ impl<K: KeyOrder> MemoryTables<K> {
         }
     }
 
-    /// Seals the current table, which then is known as the sealed one under the generation that it has, and begins an empty
-    /// one of the next generation. The last sequence stays. Where memory is refused, nothing has changed; the generation
-    /// 2^64 is refused as memory is.
+    /// Seals the current table, which then is known as the sealed one under the generation that it
+    /// has, and begins an empty one of the next generation. The last sequence stays. Where memory
+    /// is refused, nothing has changed; the generation 2^64 is refused as memory is.
     pub fn seal(&mut self, alloc: Global) -> Result<(), AllocError>
         requires { self.old.sealed ≡ None }
         ensures ok { OnOk result (IsSealed self.old self.new) }
@@ -220,8 +224,9 @@ impl<K: KeyOrder> MemoryTables<K> {
         }
     }
 
-    /// Takes a seal back, behind which nothing was written: the sealed table is the current one again. It takes no memory.
-    /// Where something was written behind it, or no table is sealed, nothing happens.
+    /// Takes a seal back, behind which nothing was written: the sealed table is the current one
+    /// again. It takes no memory. Where something was written behind it, or no table is sealed,
+    /// nothing happens.
     pub fn unseal(&mut self)
         ensures left { (before : Memories) → IsSealed before self.old → LeavesMemories before self.new }
         ensures last { self.new.last ≡ self.old.last }
@@ -250,15 +255,16 @@ impl<K: KeyOrder> MemoryTables<K> {
         self.older.get(&self.sealed?)
     }
 
-    /// No table is sealed any more: a table file has the entries of the one that was. It stays for its readers, until it is
-    /// dropped or forgotten.
+    /// No table is sealed any more: a table file has the entries of the one that was. It stays for
+    /// its readers, until it is dropped or forgotten.
     pub fn flushed(&mut self)
         ensures { DropsSealed self.old self.new }
     {
         self.sealed = None;
     }
 
-    /// Drops the older table of a generation, where there is one that isn't sealed. It takes no memory.
+    /// Drops the older table of a generation, where there is one that isn't sealed. It takes no
+    /// memory.
     pub fn forget(&mut self, generation: u64)
         ensures { KeepsUsed (IsRemembered generation self.old) self.old self.new }
     {
@@ -267,7 +273,8 @@ impl<K: KeyOrder> MemoryTables<K> {
         }
     }
 
-    /// Drops the older tables that none of these users reads and that aren't sealed. It takes no memory.
+    /// Drops the older tables that none of these users reads and that aren't sealed. It takes no
+    /// memory.
     pub fn drop_unused<U: Users>(&mut self, users: &U)
         ensures { KeepsUsed (IsUsed (U.names users.now) self.old) self.old self.new }
     {
@@ -286,7 +293,8 @@ impl<K: KeyOrder> MemoryTables<K> {
         self.older.get(&generation)
     }
 
-    /// Moves a cursor over the table of a generation. The entries stay. Corrupt, where there is no such table.
+    /// Moves a cursor over the table of a generation. The entries stay. Corrupt, where there is no
+    /// such table.
     pub(crate) fn move_cursor(
         &mut self,
         alloc: Global,
@@ -331,7 +339,8 @@ impl<K: KeyOrder> MemoryTables<K> {
     }
 }
 
-// Why a cursor over a table that isn't there is refused: the entries of the log that it was made for aren't in memory.
+// Why a cursor over a table that isn't there is refused: the entries of the log that it was made
+// for aren't in memory.
 fn missing_table() -> DbError
     ensures { result ≡ Corrupt Log Missing }
 {

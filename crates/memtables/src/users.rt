@@ -2,7 +2,8 @@
 
 ghost use Rattle.std.specs.Prelude.{ℕ, MatchBool};
 
-/// What reads memory tables, as the open iterators of a database do: it knows the generations of those that it reads.
+/// What reads memory tables, as the open iterators of a database do: it knows the generations of
+/// those that it reads.
 pub trait Users {
     /// It reads the table of this generation.
     ghost names: { Self → ℕ → Type 0 };

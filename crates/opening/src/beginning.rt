@@ -43,8 +43,9 @@ pub struct Begun<K: KeyOrder> {
     pub directory: DirectoryState,
 }
 
-/// Reads what is there, and writes MANIFEST, `CURRENT` and the log anew. The lock has to be held, so that nobody else writes. A refusal
-/// leaves what the directory says as it was: those of `find`, OutOfMemory, and Io where the store fails.
+/// Reads what is there, and writes MANIFEST, `CURRENT` and the log anew. The lock has to be held,
+/// so that nobody else writes. A refusal leaves what the directory says as it was: those of `find`,
+/// OutOfMemory, and Io where the store fails.
 pub fn begin<K: KeyOrder, S: Store>(
     alloc: Global,
     store: &mut S,
@@ -79,7 +80,8 @@ pub fn begin<K: KeyOrder, S: Store>(
         (IsContinued (order_of K.name K.cmp) (S.facts store.old).files) }
     ensures stops_each { IsTrue (S.facts store.new).faithful → LeavesOnly (S.facts store.old) (S.facts store.new)
         (λ files. OfEach (λ whole after. IsContinued (order_of K.name K.cmp) whole after) (S.facts store.old).files files) }
-    // So does a loss of power, where the device has the names that were there, and it cuts no file short that was.
+    // So does a loss of power, where the device has the names that were there, and it cuts no file
+    // short that was.
     ensures loses { IsTrue (S.facts store.new).faithful → HaveNamesStayed (S.facts store.old)
         → LosesOnly (S.facts store.old) (S.facts store.new)
         (λ lost. LeavesUncut (S.facts store.old) lost → IsButLock (IsContinued (order_of K.name K.cmp) (S.facts store.old).files) lost) }

@@ -3,8 +3,8 @@
 use directory_writes::CurrentManifest;
 use edits::FileNumbers;
 
-/// What an open database knows of its directory, beside its tables and the log that writes go to (LevelDB's db/version_set.h, the
-/// numbers of VersionSet).
+/// What an open database knows of its directory, beside its tables and the log that writes go to
+/// (LevelDB's db/version_set.h, the numbers of VersionSet).
 #[derive(Drop)]
 pub struct DirectoryState {
     /// The MANIFEST that `CURRENT` names.
@@ -26,7 +26,8 @@ pub struct CurrentLog {
     pub name: String,
     /// Its length in bytes, where the next record begins.
     pub end: u64,
-    /// The names of the live logs in front of it that the device may not have whole: those that an open found, which has it keep them
-    /// before it ends, and those before a seal, which the next write has it keep first.
+    /// The names of the live logs in front of it that the device may not have whole: those that an
+    /// open found, which has it keep them before it ends, and those before a seal, which the next
+    /// write has it keep first.
     pub front: Vec<String>,
 }

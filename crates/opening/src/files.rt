@@ -35,8 +35,9 @@ pub fn write_file<S: Store>(store: &mut S, name: &str, bytes: &[u8]) -> Result<(
     Ok(())
 }
 
-/// Writes `CURRENT`, by way of a temporary file that takes its name, and has the device keep that it did, so that what the `CURRENT` in front
-/// of it named may go. (LevelDB's db/filename.cc, SetCurrentFile, leaves that to the order in which names reach the device.)
+/// Writes `CURRENT`, by way of a temporary file that takes its name, and has the device keep that
+/// it did, so that what the `CURRENT` in front of it named may go. (LevelDB's db/filename.cc,
+/// SetCurrentFile, leaves that to the order in which names reach the device.)
 pub fn make_current<S: Store>(store: &mut S, temporary: &str, bytes: &[u8]) -> Result<(), DbError>
     ensures files { MakesCurrent (S.facts store.old) (S.facts store.new) temporary.now bytes.now result }
     ensures synced { MakesSynced (S.facts store.old) (S.facts store.new) temporary.now bytes.now result }

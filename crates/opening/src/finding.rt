@@ -32,10 +32,10 @@ pub struct Found {
     pub number: u64,
 }
 
-/// Reads what is there, where the mode allows it: `NoDatabase` for an empty directory where one is wanted, `Exists` for
-/// one with `CURRENT` where none is, `NumbersSpent` where the new numbers would be 2^62 or more. Corrupt as
-/// `read_directory`, and where there is no `CURRENT` but a log or a table, whatever the mode is; Unsupported as
-/// `read_directory`. No table is read.
+/// Reads what is there, where the mode allows it: `NoDatabase` for an empty directory where one is
+/// wanted, `Exists` for one with `CURRENT` where none is, `NumbersSpent` where the new numbers
+/// would be 2^62 or more. Corrupt as `read_directory`, and where there is no `CURRENT` but a log or
+/// a table, whatever the mode is; Unsupported as `read_directory`. No table is read.
 pub fn find<K: KeyOrder, S: Store>(
     alloc: Global,
     store: &mut S,

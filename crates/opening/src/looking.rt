@@ -1,5 +1,5 @@
-//! What a directory holds, and what is in memory of it, before anything is done to it: the half of an open that only reads (LevelDB's
-//! db/db_impl.cc, DBImpl::Recover).
+//! What a directory holds, and what is in memory of it, before anything is done to it: the half of
+//! an open that only reads (LevelDB's db/db_impl.cc, DBImpl::Recover).
 
 ghost use Rattle.std.specs.Prelude.{◌≡◌, ◌≤◌, ◌<◌, ◌^◌, IfOk, IfErr, IfSome, IsTrue};
 ghost use Rattle.coding.specs.declared.error.DbError.TheVariants.{OutOfMemory};
@@ -21,8 +21,8 @@ use std::rc::Rc;
 use store::Store;
 use versions::Version;
 
-/// What is there: `None` where the directory is empty. Corrupt as `read_directory`, and where there is no `CURRENT` but a log or a
-/// table; Unsupported as `read_directory`. No table is read.
+/// What is there: `None` where the directory is empty. Corrupt as `read_directory`, and where there
+/// is no `CURRENT` but a log or a table; Unsupported as `read_directory`. No table is read.
 pub fn look<K: KeyOrder, S: Store>(
     alloc: Global,
     store: &mut S,
@@ -66,7 +66,8 @@ pub fn look_at<K: KeyOrder, S: Store>(
     Ok(None)
 }
 
-/// The entries of these logs, sealed where there are some, since nothing more is written to them; and the last sequence used.
+/// The entries of these logs, sealed where there are some, since nothing more is written to them;
+/// and the last sequence used.
 pub fn sealed_memory<K: KeyOrder>(
     alloc: Global,
     entries: &[Entry],
@@ -84,7 +85,8 @@ pub fn sealed_memory<K: KeyOrder>(
     Ok(memory)
 }
 
-/// The version that has the tables of a layout. Tables whose ranges are in order make one, so that only memory can be short.
+/// The version that has the tables of a layout. Tables whose ranges are in order make one, so that
+/// only memory can be short.
 pub fn version_of<K: KeyOrder>(alloc: Global, layout: &Layout) -> Result<Rc<Version<K>>, DbError>
     requires kept { IsKept layout.now }
     requires ranges { HaveRanges (order_of K.name K.cmp) layout.now.tables.items }

@@ -1,5 +1,5 @@
-//! What an open writes: a new MANIFEST, `CURRENT`, and a new log (LevelDB's db/db_impl.cc, DBImpl::NewDB, and
-//! db/version_set.cc, VersionSet::LogAndApply).
+//! What an open writes: a new MANIFEST, `CURRENT`, and a new log (LevelDB's db/db_impl.cc,
+//! DBImpl::NewDB, and db/version_set.cc, VersionSet::LogAndApply).
 
 ghost use Rattle.std.specs.Prelude.{◌≡◌, ◌<◌, ◌+◌, ◌^◌, ◌++◌, ◌∷◌, [], IfOk, IfErr, IsTrue, OnOk, length, map, string_bytes};
 ghost use Rattle.coding.specs.declared.error.DbError.TheVariants.{OutOfMemory};
@@ -69,7 +69,8 @@ pub fn plan_rewrite<K: KeyOrder>(alloc: Global, found: &Found) -> Result<Rewrite
     })
 }
 
-// The names of the logs that were found, where they have entries: who wrote these may not have had the device keep them.
+// The names of the logs that were found, where they have entries: who wrote these may not have had
+// the device keep them.
 fn logs_in_front(alloc: Global, found: &Found) -> Result<Vec<String>, AllocError>
     ensures { IfOk result (λ names. IsFront found.now (map string_bytes names.items)) }
 {
@@ -171,8 +172,8 @@ pub fn known_after(found: &Found, name: String, end: u64) -> DirectoryState
     }
 }
 
-/// Writes a new MANIFEST, makes it current, and makes an empty log. What a consistent directory says stays, wherever it
-/// ends.
+/// Writes a new MANIFEST, makes it current, and makes an empty log. What a consistent directory
+/// says stays, wherever it ends.
 pub fn rewrite_directory<K: KeyOrder, S: Store>(
     store: &mut S,
     found: &Found,

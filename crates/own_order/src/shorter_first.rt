@@ -1,4 +1,5 @@
-// An order of one's own: numbers as keys, by their value. `docs/ORDERS.md` explains it line by line.
+// An order of one's own: numbers as keys, by their value. `docs/ORDERS.md` explains it line by
+// line.
 
 ghost use Rattle.std.specs.Prelude.{codes, length};
 ghost use Rattle.std.proofs.Common.{lit<};
@@ -10,8 +11,8 @@ ghost use Rattle.own_order.specs.ShorterFirst.{shorter_first_exact};
 use ikey::KeyOrder;
 use std::cmp::Ordering;
 
-/// The shorter key first, and of one length the first byte that differs decides. So numbers without a zero in front, in decimal as in
-/// big-endian bytes, stand by their value.
+/// The shorter key first, and of one length the first byte that differs decides. So numbers without
+/// a zero in front, in decimal as in big-endian bytes, stand by their value.
 pub struct ShorterFirst;
 
 impl KeyOrder for ShorterFirst {

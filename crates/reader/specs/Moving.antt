@@ -52,8 +52,8 @@ abbrev pub MayRefuseMotion : Motion → DbError → Type 0
 MayRefuseMotion motion error.NoPlace = needs_place motion ≡ true
 MayRefuseMotion motion e = IsReadError e
 
--- Where a move has led an iterator that was this walk: to the place of the motion, with the pair there, or, refused, to where
--- it stood.
+-- Where a move has led an iterator that was this walk: to the place of the motion, with the pair
+-- there, or, refused, to where it stood.
 abbrev pub MovesTo : {K : Type 0} {g : _} → (List ℕ → List ℕ → Ordering) → Motion → Bool → Whole → Scan K g → Walk → Result (Option (List ℕ × List ℕ)) DbError → Type 0
 MovesTo cmp motion limited after new walk (Ok pair) =
     IsWalk cmp limited after new (record walk { place = place_after cmp motion walk }) × (pair ≡ pair_at walk.pairs (place_after cmp motion walk))

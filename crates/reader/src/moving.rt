@@ -30,8 +30,9 @@ impl Movement<'_> {
     }
 }
 
-/// Moves an iterator, and answers a copy of the pair on which it stands then: nothing where there is none. `NoPlace` for a
-/// step of one that stands nowhere. Where the move or the copy is refused, it stays where it stood.
+/// Moves an iterator, and answers a copy of the pair on which it stands then: nothing where there
+/// is none. `NoPlace` for a step of one that stands nowhere. Where the move or the copy is refused,
+/// it stays where it stood.
 pub fn move_iterator<K: KeyOrder, S: Store>(
     alloc: Global,
     source: &mut Sources<K, S>,

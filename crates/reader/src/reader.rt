@@ -19,9 +19,10 @@ use table_access::Tables;
 use version_laws::version_of_directory;
 use versions::Version;
 
-/// A database that is looked at: the map that its directory had at its last sequence when it was opened. `K` is the order of its
-/// user keys. No lock is taken and no file is changed. What another process writes meanwhile isn't seen; where it removes a file that
-/// is still to be read, the call is refused.
+/// A database that is looked at: the map that its directory had at its last sequence when it was
+/// opened. `K` is the order of its user keys. No lock is taken and no file is changed. What another
+/// process writes meanwhile isn't seen; where it removes a file that is still to be read, the call
+/// is refused.
 #[derive(Drop)]
 pub struct Reader<S, K: KeyOrder> {
     source: Sources<K, ReadOnly<S>>,
@@ -51,15 +52,17 @@ impl<S: Store, K: KeyOrder> Reader<S, K> {
     ghost use Rattle.reader.specs.Readers.{facts_of, whole_of, scan_of, store_of, last_of};
     ghost use Rattle.reader.specs.Readers.{HoldsDirectory, RefusesGet, ShowsMap, KeepsMaps, KeepsMayMaps, MayShowMap};
 
-    /// Reads `CURRENT`, the MANIFEST and the logs, and sees that each table is there with its length. `NoDatabase` for an empty
-    /// directory, Corrupt and Unsupported as an open of a database. It asks for no lock and draws no number. So many blocks are kept in
-    /// memory, as they are read. A refusal hands the store back.
+    /// Reads `CURRENT`, the MANIFEST and the logs, and sees that each table is there with its
+    /// length. `NoDatabase` for an empty directory, Corrupt and Unsupported as an open of a
+    /// database. It asks for no lock and draws no number. So many blocks are kept in memory, as
+    /// they are read. A refusal hands the store back.
     pub fn open(
         alloc: Global,
         store: ReadOnly<S>,
         cache_blocks: NonZeroUsize,
     ) -> Result<Self, (DbError, ReadOnly<S>)>
-        // While the store is faithful, it shows the map of the directory, wherever that is consistent.
+        // While the store is faithful, it shows the map of the directory, wherever that is
+        // consistent.
         ensures shows { IfOk result (λ reader. IsTrue (facts_of S.facts reader).faithful → (d : Directory) (map : Contents)
             → IsConsistent (order_of K.name K.cmp) (looked_at S.facts store).files d → IsView (entries_in d) (used_in d) map
             → ShowsMap (order_of K.name K.cmp) S.facts reader map) }
@@ -119,8 +122,9 @@ impl<S: Store, K: KeyOrder> Reader<S, K> {
         Ok(ReaderWalk { scan })
     }
 
-    /// Moves a walk, and answers a copy of the pair on which it stands then: nothing where there is none. `NoPlace` for a step of one
-    /// that stands nowhere. A refused move leaves it where it stood.
+    /// Moves a walk, and answers a copy of the pair on which it stands then: nothing where there is
+    /// none. `NoPlace` for a step of one that stands nowhere. A refused move leaves it where it
+    /// stood.
     pub fn go(
         &mut self,
         alloc: Global,
@@ -152,8 +156,9 @@ impl<S: Store, K: KeyOrder> Reader<S, K> {
         &self.source.tables.store
     }
 
-    /// Why a call was refused, beside the refusal itself: the note that the store took last, with the file, the place in it, what was found
-    /// and what was wanted, and the system's error. It may be of an earlier refusal, or of none; as text it is a line without the file's name.
+    /// Why a call was refused, beside the refusal itself: the note that the store took last, with
+    /// the file, the place in it, what was found and what was wanted, and the system's error. It
+    /// may be of an earlier refusal, or of none; as text it is a line without the file's name.
     pub fn trouble(&self) -> Trouble
         ensures { result ≡ S.told (store_of self.now).inner }
     {

@@ -33,7 +33,8 @@ pub fn empty_law()
     ensures { EmptyLaw }
 {}
 
-/// Law: a change that keeps the names of files and the MANIFEST keeps the number that the next open draws.
+/// Law: a change that keeps the names of files and the MANIFEST keeps the number that the next open
+/// draws.
 pub fn number_law()
     ensures { NumberLaw }
 {}
@@ -53,12 +54,14 @@ pub fn one_directory()
     ensures { OneDirectoryLaw }
 {}
 
-/// Law: a record for the next batch behind the last log adds the batch's entries there, and changes no other part.
+/// Law: a record for the next batch behind the last log adds the batch's entries there, and changes
+/// no other part.
 pub fn extend_law()
     ensures { ExtendLaw }
 {}
 
-/// Law: a beginning of such a record changes no part but the last log, and adds nothing to it, or all of the batch's entries.
+/// Law: a beginning of such a record changes no part but the last log, and adds nothing to it, or
+/// all of the batch's entries.
 pub fn failed_extend_law()
     ensures { FailedExtendLaw }
 {}
@@ -88,7 +91,8 @@ pub fn flush_law()
     ensures { FlushLaw }
 {}
 
-/// Law: outputs in place of inputs leave a consistent directory, with the outputs' entries in place of the inputs'.
+/// Law: outputs in place of inputs leave a consistent directory, with the outputs' entries in place
+/// of the inputs'.
 pub fn compaction_law()
     ensures { CompactionLaw }
 {}
@@ -103,12 +107,14 @@ pub fn unread_law()
     ensures { UnreadLaw }
 {}
 
-/// Law: no two entries of a consistent directory share a key and a sequence, so that of each key one is the newest.
+/// Law: no two entries of a consistent directory share a key and a sequence, so that of each key
+/// one is the newest.
 pub fn distinct_law()
     ensures { DistinctLaw }
 {}
 
-/// Law: a MANIFEST that passes a limit of reading, and is one all the same, passes that of the numbers of tables.
+/// Law: a MANIFEST that passes a limit of reading, and is one all the same, passes that of the
+/// numbers of tables.
 pub fn beyond_law()
     ensures { BeyondLaw }
 {}

@@ -1,5 +1,5 @@
-//! Where a log, or a MANIFEST, which has the form of one, is damaged. For the eye alone: it is looked for once more where the bytes were
-//! refused, by readers that need none of it.
+//! Where a log, or a MANIFEST, which has the form of one, is damaged. For the eye alone: it is
+//! looked for once more where the bytes were refused, by readers that need none of it.
 
 use batch::Batch;
 use coding::{Damage, crc32c, get_fixed32, mask};
@@ -34,8 +34,8 @@ struct Fault {
     wanted: u64,
 }
 
-/// The first fault in the fragments of a log, whose blocks begin where the bytes do. That fragments of one record stand in a wrong order
-/// is seen only where that is the damage that was found.
+/// The first fault in the fragments of a log, whose blocks begin where the bytes do. That fragments
+/// of one record stand in a wrong order is seen only where that is the damage that was found.
 pub fn fault_in(name: &str, bytes: &[u8], what: Damage) -> Trouble {
     let mut at = 0_usize;
     let mut inside = false;

@@ -48,7 +48,8 @@ fn compare_logged<K: KeyOrder>(a: &Logged<'_>, b: &Logged<'_>) -> Ordering
     }
 }
 
-/// Whether an entry of this key and sequence is older than all that is logged of its key: than the first of them.
+/// Whether an entry of this key and sequence is older than all that is logged of its key: than the
+/// first of them.
 pub fn is_older<K: KeyOrder>(logged: &[Logged<'_>], key: &[u8], sequence: u64) -> bool
     requires { AreByAge (order_of K.name K.cmp) logged.now }
     ensures { MatchBool result (IsOlderThanAll logged.now key.now sequence) (IsNotOlder logged.now key.now sequence) }

@@ -122,7 +122,8 @@ fn decode_manifest<K: KeyOrder>(alloc: Global, bytes: &[u8]) -> Result<Manifest,
     }
 }
 
-/// The records of a log or a MANIFEST, which has the form of a log. What is torn at its end isn't in it.
+/// The records of a log or a MANIFEST, which has the form of a log. What is torn at its end isn't
+/// in it.
 pub fn records_in(alloc: Global, file: FileKind, bytes: &[u8]) -> Result<Vec<Vec<u8>>, DbError>
     ensures found { IfOk result (λ records. (tail : TailValue) × IsLog bytes.now (map (λ r. r.items) records.items) tail) }
     ensures refused { IfErr result (λ error. RefusesBytes error

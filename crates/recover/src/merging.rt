@@ -1,4 +1,5 @@
-//! The tables of a directory, all in one reading: merged, their entries tell which table is older than it has to be.
+//! The tables of a directory, all in one reading: merged, their entries tell which table is older
+//! than it has to be.
 
 ghost use Rattle.std.specs.Prelude.{◌≡◌, ◌<◌, ◌+◌, List, true, length, Some, slice_get, IfOk, IfErr, OnOk, MatchBool};
 ghost use Rattle.ikey.specs.Orders.{order_of};
@@ -19,7 +20,8 @@ use ikey::{InternalKey, KeyOrder, unpack};
 use std::alloc::{AllocError, Global};
 use store::{Store, Why};
 
-/// What the entries of tables are held against: the tables' levels and keys, what is logged, and the recorded sequence.
+/// What the entries of tables are held against: the tables' levels and keys, what is logged, and
+/// the recorded sequence.
 #[derive(Clone, Copy)]
 pub struct Against<'a> {
     pub tables: &'a [PlacedTable],
@@ -360,8 +362,8 @@ fn set_last<K: KeyOrder>(last: &mut Last, lane: &Lane<K>) -> Result<(), AllocErr
     Ok(())
 }
 
-// Whether the entry at which a lane stands is one that a consistent directory has there: it is recorded, older than what is
-// logged of its key, and of its key the next one that may come.
+// Whether the entry at which a lane stands is one that a consistent directory has there: it is
+// recorded, older than what is logged of its key, and of its key the next one that may come.
 fn judge<K: KeyOrder, S: Store>(
     store: &mut S,
     against: Against<'_>,
@@ -394,8 +396,9 @@ fn judge<K: KeyOrder, S: Store>(
     Ok(())
 }
 
-// Whether the entry at which a lane stands may come behind the last one, in front of which it doesn't stand: where it is of the same
-// key, it is older, and its table isn't one that has to be newer.
+// Whether the entry at which a lane stands may come behind the last one, in front of which it
+// doesn't stand: where it is of the same key, it is older, and its table isn't one that has to be
+// newer.
 fn may_come<K: KeyOrder>(last: &Last, lane: &Lane<K>) -> bool
     ensures { MatchBool result (MayComeNext last.now lane.now) (BreaksNext last.now lane.now) }
 {
@@ -411,7 +414,8 @@ fn may_come<K: KeyOrder>(last: &Last, lane: &Lane<K>) -> bool
     is_no_newer(last.level, last.place, lane.level, lane.place)
 }
 
-// Whether of two tables, each by its level and its place in the row, the second isn't one that has to be newer.
+// Whether of two tables, each by its level and its place in the row, the second isn't one that has
+// to be newer.
 fn is_no_newer(level: u32, place: usize, other_level: u32, other: usize) -> bool
     ensures { MatchBool result (IsNoNewer level place other_level other) (IsNoNewer level place other_level other → ⊥) }
 {

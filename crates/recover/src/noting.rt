@@ -25,7 +25,8 @@ pub fn note_length<S: Store>(store: &mut S, name: &str, found: u64, wanted: u64)
     store.note(Trouble::of(Why::FileLength, name).found(found, wanted));
 }
 
-/// Notes what is wrong with the table of this number, by the name that we give it or the one that older writers gave.
+/// Notes what is wrong with the table of this number, by the name that we give it or the one that
+/// older writers gave.
 pub fn note_table<S: Store>(alloc: Global, store: &mut S, number: u64, is_older: bool, why: Why)
     ensures { S.facts store.new ≡ S.facts store.old }
 {

@@ -32,11 +32,13 @@ pub enum Origin {
     Log(u64),
 }
 
-/// The entries of one table or live log of a consistent directory: those of a table by key, the newer ones of a key
-/// first, those of a log as they were written. It reads `CURRENT`, the MANIFEST and that file, and doesn't take the lock.
+/// The entries of one table or live log of a consistent directory: those of a table by key, the
+/// newer ones of a key first, those of a log as they were written. It reads `CURRENT`, the MANIFEST
+/// and that file, and doesn't take the lock.
 ///
-/// Corrupt and Unsupported come as from `read_directory` for the MANIFEST, and as from `check` for the file; beside it
-/// Corrupt with `Missing` where the MANIFEST leaves no such table, or such a log isn't live.
+/// Corrupt and Unsupported come as from `read_directory` for the MANIFEST, and as from `check` for
+/// the file; beside it Corrupt with `Missing` where the MANIFEST leaves no such table, or such a
+/// log isn't live.
 pub fn file_entries<K: KeyOrder, S: Store>(
     alloc: Global,
     store: &mut S,

@@ -1,4 +1,5 @@
-//! What a directory has, by its MANIFEST and its listing (LevelDB's db/db_impl.cc, DBImpl::GetProperty, without an open).
+//! What a directory has, by its MANIFEST and its listing (LevelDB's db/db_impl.cc,
+//! DBImpl::GetProperty, without an open).
 
 ghost use Rattle.std.specs.Prelude.{◌≡◌, ◌<◌, None, IfOk, IfErr, IfSome, IsTrue};
 ghost use Rattle.std.specs.List.{filter};
@@ -40,11 +41,13 @@ pub struct LogLength {
     pub length: u64,
 }
 
-/// Reads `CURRENT` and the MANIFEST that it names, and asks how long the live logs are; or `None` of a directory without a
-/// database. No table and no log is read, and none is asked for that isn't listed, so that damage in these isn't found.
+/// Reads `CURRENT` and the MANIFEST that it names, and asks how long the live logs are; or `None`
+/// of a directory without a database. No table and no log is read, and none is asked for that isn't
+/// listed, so that damage in these isn't found.
 ///
-/// Corrupt comes as from `read_directory`, where the MANIFEST can't be read, or where there is a table or a log and no `CURRENT`;
-/// Unsupported where the MANIFEST names another order of keys (`Comparator`) or a table number of 2^62 or more (`TableNumber`).
+/// Corrupt comes as from `read_directory`, where the MANIFEST can't be read, or where there is a
+/// table or a log and no `CURRENT`; Unsupported where the MANIFEST names another order of keys
+/// (`Comparator`) or a table number of 2^62 or more (`TableNumber`).
 pub fn overview_of<K: KeyOrder, S: Store>(
     alloc: Global,
     store: &mut S,

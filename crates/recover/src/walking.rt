@@ -61,8 +61,8 @@ impl Head {
     }
 }
 
-/// A table that is read from its front. Each of its blocks is checked as it comes, with the index and the filter, and stands in memory
-/// alone; keys are read where they lie in it.
+/// A table that is read from its front. Each of its blocks is checked as it comes, with the index
+/// and the filter, and stands in memory alone; keys are read where they lie in it.
 #[derive(Drop)]
 pub struct TableWalk<K: KeyOrder> {
     /// The name of its file.
@@ -117,7 +117,8 @@ impl<K: KeyOrder> TableWalk<K> {
         Ok(walk)
     }
 
-    /// Passes the pair at hand: whether it stands on another one. Behind the last one, whose key is that of the edit, it stands on none.
+    /// Passes the pair at hand: whether it stands on another one. Behind the last one, whose key is
+    /// that of the edit, it stands on none.
     pub fn go_on<S: Store>(
         &mut self,
         alloc: Global,
@@ -205,7 +206,8 @@ struct BlockRead<K: KeyOrder> {
     block: BlockCursor<Internal<K>>,
 }
 
-// A walk over the table of this file, which has read the first block that has pairs, and has no key at hand yet.
+// A walk over the table of this file, which has read the first block that has pairs, and has no key
+// at hand yet.
 fn open_first<K: KeyOrder, S: Store>(
     alloc: Global,
     store: &mut S,

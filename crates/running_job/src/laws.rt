@@ -6,7 +6,8 @@ ghost use Rattle.running_job.specs.internal.Staying.{MayRunStays, RunningStays, 
 
 use ikey::KeyOrder;
 
-/// Law: a job goes on over what others have left of its tables, while they wrote, read, flushed or removed files.
+/// Law: a job goes on over what others have left of its tables, while they wrote, read, flushed or
+/// removed files.
 pub fn running_stays<K: KeyOrder>()
     ensures { (work : OpenJob K K.KeyOrder) → RunningStays (order_of K.name K.cmp) work }
 {}

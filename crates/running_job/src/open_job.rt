@@ -1,4 +1,5 @@
-//! A compaction as one value that lives across calls (LevelDB's db/db_impl.cc, DBImpl::DoCompactionWork).
+//! A compaction as one value that lives across calls (LevelDB's db/db_impl.cc,
+//! DBImpl::DoCompactionWork).
 
 ghost use Rattle.std.specs.Prelude.{◌<◌, ◌≤◌, ◌^◌, ℕ, IfOk, MatchBool};
 ghost use Rattle.compact.specs.JobEdits.{IsPlanProper};
@@ -29,14 +30,14 @@ use table_access::sound_lasts;
 use version_laws::version_of_part;
 use versions::{JobPlan, Version, inputs_in_order};
 
-/// A job over the tables of a plan's inputs, with the version for which the plan was made: its tables below the output level are
-/// those whose keys a delete is kept for.
+/// A job over the tables of a plan's inputs, with the version for which the plan was made: its
+/// tables below the output level are those whose keys a delete is kept for.
 #[derive(Drop)]
 pub struct OpenJob<K: KeyOrder> {
     job: Job<K, Merge<K, SourceCursor<K>>>,
     version: Rc<Version<K>>,
-    /// The number that was next when the job last drew one: those of its tables are below it. Behind a refusal it is above all
-    /// numbers, so that the job can't go on.
+    /// The number that was next when the job last drew one: those of its tables are below it.
+    /// Behind a refusal it is above all numbers, so that the job can't go on.
     next: u64,
     /// How many entries of its inputs came.
     merged: u64,
@@ -72,9 +73,10 @@ impl<K: KeyOrder> OpenJob<K> {
     ghost use Rattle.versions.specs.Levels.{HasNumber as HasTable};
     ghost use Rattle.versions.specs.Plans.{IsPlanOf};
 
-    /// Begins the job of a plan for a version's tables: its cursor stands on the first entry of the inputs, and no table is begun.
-    /// `snapshots` are the sequence numbers whose views are to be kept, rising: those of the live snapshots and the last one used.
-    /// Corrupt where no edit could name the plan's tables or hold its pointer.
+    /// Begins the job of a plan for a version's tables: its cursor stands on the first entry of the
+    /// inputs, and no table is begun. `snapshots` are the sequence numbers whose views are to be
+    /// kept, rising: those of the live snapshots and the last one used. Corrupt where no edit could
+    /// name the plan's tables or hold its pointer.
     pub fn begin<S: Store>(
         alloc: Global,
         source: &mut Sources<K, S>,
@@ -138,9 +140,9 @@ impl<K: KeyOrder> OpenJob<K> {
         })
     }
 
-    /// Merges so many entries, or one for 0, or all that are left where those are fewer. Corrupt where the numbers are older than
-    /// those of the job. After an `Err` the job is to be given up: the files that it wrote are no part of the directory, and its
-    /// inputs are as they were.
+    /// Merges so many entries, or one for 0, or all that are left where those are fewer. Corrupt
+    /// where the numbers are older than those of the job. After an `Err` the job is to be given up:
+    /// the files that it wrote are no part of the directory, and its inputs are as they were.
     pub fn step<S: Store>(
         &mut self,
         alloc: Global,
@@ -210,10 +212,11 @@ impl<K: KeyOrder> OpenJob<K> {
         Ok(progress)
     }
 
-    /// Ends the job once all entries of its inputs came, and puts its edit behind the MANIFEST, so that its outputs are in the
-    /// place of its inputs (see `directory_writes::install_job`). Corrupt where the numbers are older than those of the job or the version
-    /// isn't that of its inputs, and NumbersSpent where they are above 2^62. After a refusal the files that it wrote are no part
-    /// of the directory.
+    /// Ends the job once all entries of its inputs came, and puts its edit behind the MANIFEST, so
+    /// that its outputs are in the place of its inputs (see `directory_writes::install_job`).
+    /// Corrupt where the numbers are older than those of the job or the version isn't that of its
+    /// inputs, and NumbersSpent where they are above 2^62. After a refusal the files that it wrote
+    /// are no part of the directory.
     pub fn install<S: Store>(
         self,
         alloc: Global,
@@ -227,7 +230,8 @@ impl<K: KeyOrder> OpenJob<K> {
         ensures call { InstallTouches (S.facts store.old) (S.facts store.new) self.job.outputs (string_bytes manifest.now.name) }
         ensures fails { FailsAsWrite (S.facts store.old) (S.facts store.new) }
         ensures stood { OnOk result ((S.facts store.new).failures ≡ (S.facts store.old).failures) }
-        // In each directory that the files may come from it has merged exactly the entries of its inputs.
+        // In each directory that the files may come from it has merged exactly the entries of its
+        // inputs.
         ensures merged { OnOk result (HasMerged (order_of K.name K.cmp) (S.facts store.old) numbers.now.next self) }
         ensures version { IfOk result
             (λ installed. HasJobVersion K.cmp self.job.plan self.job.outputs version.now installed.version.value) }

@@ -24,8 +24,8 @@ pub fn fronts_of(alloc: Global, places: &[Place]) -> Result<Vec<Front>, AllocErr
     Ok(fronts)
 }
 
-/// The first place whose key isn't below the target, or the number of places: no entry of a block in front of it
-/// can be the one that is sought. The places' user keys have these fronts.
+/// The first place whose key isn't below the target, or the number of places: no entry of a block
+/// in front of it can be the one that is sought. The places' user keys have these fronts.
 pub fn first_place<K: KeyOrder>(places: &[Place], fronts: &[Front], target: &[u8]) -> usize
     requires { AreFronts places.now fronts.now }
     ensures inside { result ≤ length places.now }
@@ -49,7 +49,8 @@ pub fn first_place<K: KeyOrder>(places: &[Place], fronts: &[Front], target: &[u8
     low
 }
 
-// Whether the key of the place of this index is below the target, whose user key has the front `sought`.
+// Whether the key of the place of this index is below the target, whose user key has the front
+// `sought`.
 fn is_below<K: KeyOrder>(
     places: &[Place],
     fronts: &[Front],

@@ -22,7 +22,8 @@ use ikey::{Internal, KeyOrder, unpack};
 use std::alloc::{AllocError, Global};
 use store::{Store, Why};
 
-/// The data block at a handle. Corrupt and Unsupported as `read_stored`; Corrupt too where the keys don't rise.
+/// The data block at a handle. Corrupt and Unsupported as `read_stored`; Corrupt too where the keys
+/// don't rise.
 pub fn read_data<K: KeyOrder, S: Store>(
     alloc: Global,
     store: &mut S,
@@ -45,8 +46,9 @@ pub fn read_data<K: KeyOrder, S: Store>(
     }
 }
 
-/// The data block of a place, behind one of this bound. Corrupt and Unsupported as `read_data`; Corrupt too where a key is no internal
-/// key, isn't above that bound, or is above its own. It is read into `room` where it fits.
+/// The data block of a place, behind one of this bound. Corrupt and Unsupported as `read_data`;
+/// Corrupt too where a key is no internal key, isn't above that bound, or is above its own. It is
+/// read into `room` where it fits.
 pub fn read_within<K: KeyOrder, S: Store>(
     alloc: Global,
     store: &mut S,

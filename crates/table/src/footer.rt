@@ -17,7 +17,8 @@ const HANDLES_LENGTH: usize = 40;
 
 const MAGIC: [u8; 8] = [0x57, 0xFB, 0x80, 0x8B, 0x24, 0x75, 0x47, 0xDB];
 
-/// The magic number that these bytes of a footer have, in the order of the bytes, or 0 where they are too few.
+/// The magic number that these bytes of a footer have, in the order of the bytes, or 0 where they
+/// are too few.
 pub fn magic_in(bytes: &[u8]) -> u64 {
     let Some(last) = bytes.get(HANDLES_LENGTH..) else {
         return 0;
@@ -42,8 +43,9 @@ pub struct Footer {
     pub index: Handle,
 }
 
-/// The footer that the bytes are: `Length` where they are too few or too many, `Kind` at another magic number,
-/// `Number` where there is no handle, `Padding` where other bytes than zeros stand behind the handles.
+/// The footer that the bytes are: `Length` where they are too few or too many, `Kind` at another
+/// magic number, `Number` where there is no handle, `Padding` where other bytes than zeros stand
+/// behind the handles.
 pub fn read_footer(bytes: &[u8]) -> Result<Footer, Damage>
     ensures found { IfOk result (λ footer. IsFooter bytes.now footer.metaindex footer.index) }
     ensures refused { IfErr result (λ _. (metaindex index : HandleValue) → IsFooter bytes.now metaindex index → ⊥) }

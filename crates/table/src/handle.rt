@@ -17,7 +17,8 @@ pub struct Handle {
     pub size: u64,
 }
 
-/// What the index says of a data block: a key that no key of the block is above, and where the block is.
+/// What the index says of a data block: a key that no key of the block is above, and where the
+/// block is.
 #[derive(Debug, Drop)]
 pub struct Place {
     /// An internal key, at least the block's last one, and below the next block's first one.

@@ -1,5 +1,5 @@
-//! Why a table is refused, noted beside the refusal, with which nothing of its files changes. What is found is looked for once
-//! more where it is refused, and nowhere else.
+//! Why a table is refused, noted beside the refusal, with which nothing of its files changes. What
+//! is found is looked for once more where it is refused, and nowhere else.
 
 ghost use Rattle.std.specs.Prelude.{◌≡◌, Some, None};
 ghost use Rattle.coding.specs.declared.error.DbError.TheVariants.{Corrupt};
@@ -16,7 +16,8 @@ use block::MAX_BLOCK_LENGTH;
 use coding::{Damage, DbError, FileKind, ReadError};
 use store::{Store, StoreError, Trouble, Why};
 
-/// The refusal that stands for one of the store, where a missing file is noted. (What else the store refuses it notes itself.)
+/// The refusal that stands for one of the store, where a missing file is noted. (What else the
+/// store refuses it notes itself.)
 pub fn refuse_call<S: Store>(store: &mut S, name: &str, e: StoreError) -> DbError
     ensures same { S.facts store.new ≡ S.facts store.old }
     ensures value { result ≡ refusal_of e }
@@ -185,7 +186,8 @@ fn footer_trouble(bytes: &[u8], what: Damage, name: &str) -> Trouble
     }
 }
 
-/// Notes what is wrong with the parts of a table: with its blocks together, or with the keys of the block at a place.
+/// Notes what is wrong with the parts of a table: with its blocks together, or with the keys of the
+/// block at a place.
 pub fn note_parts<S: Store>(store: &mut S, name: &str, at: Option<u64>, why: Why)
     ensures same { S.facts store.new ≡ S.facts store.old }
     ensures names { NamesFile name.now (S.told store.new) }

@@ -12,7 +12,8 @@ use std::rc::Rc;
 /// A key and a value, as a block has them.
 #[derive(Debug, Drop)]
 pub struct KeyValue {
-    /// In a data block the bytes of an internal key: the user key, and eight bytes with sequence and kind.
+    /// In a data block the bytes of an internal key: the user key, and eight bytes with sequence
+    /// and kind.
     pub key: Bytes,
     /// The value of a put, and nothing for a delete.
     pub value: Bytes,

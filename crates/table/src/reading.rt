@@ -77,10 +77,10 @@ pub fn read_part<S: Store>(
     }
 }
 
-/// The block that the file has at a handle: its checksum is compared, and then its type. No memory is taken before
-/// the file is known to have that many bytes: where the block doesn't end within the `known` bytes, which are there as
-/// far as the caller knows, the store is asked. A block of more than 2^30 bytes is Unsupported. It is read into `room`
-/// where it fits.
+/// The block that the file has at a handle: its checksum is compared, and then its type. No memory
+/// is taken before the file is known to have that many bytes: where the block doesn't end within
+/// the `known` bytes, which are there as far as the caller knows, the store is asked. A block of
+/// more than 2^30 bytes is Unsupported. It is read into `room` where it fits.
 pub fn read_stored<S: Store>(
     alloc: Global,
     store: &mut S,

@@ -24,8 +24,9 @@ use std::marker::{Model, PhantomData};
 use std::rc::Rc;
 use store::{Store, Why};
 
-/// A table that is open (LevelDB's `doc/table_format.md`), whose user keys are in the order K. Contracts see the name
-/// of its file, and what was read of it: its index, and its filter block if it has one.
+/// A table that is open (LevelDB's `doc/table_format.md`), whose user keys are in the order K.
+/// Contracts see the name of its file, and what was read of it: its index, and its filter block if
+/// it has one.
 #[derive(Drop)]
 pub struct Table<K: KeyOrder> {
     name: String,
@@ -65,8 +66,9 @@ impl<K: KeyOrder> Table<K> {
     ghost use Rattle.table.specs.Seeking.{IsFirstFrom, pairs_found, entry_list};
     ghost use Rattle.table.specs.Views.{pairs_of};
 
-    /// Reads footer, metaindex, filter block and index of a file. Corrupt, where they are no frame of a table;
-    /// Unsupported, where one of these blocks has a type other than 0 or more than 2^30 bytes.
+    /// Reads footer, metaindex, filter block and index of a file. Corrupt, where they are no frame
+    /// of a table; Unsupported, where one of these blocks has a type other than 0 or more than 2^30
+    /// bytes.
     pub fn open<S: Store>(alloc: Global, store: &mut S, name: &str) -> Result<Self, DbError>
         ensures reads { Reads (S.facts store.old) (S.facts store.new) }
         ensures name { IfOk result (λ table. table.name ≡ name.now) }
@@ -116,18 +118,19 @@ impl<K: KeyOrder> Table<K> {
         &self.places
     }
 
-    /// The index of the first data block that can have an entry whose internal key isn't below the target, or their
-    /// number.
+    /// The index of the first data block that can have an entry whose internal key isn't below the
+    /// target, or their number.
     pub fn first_place(&self, target: &[u8]) -> usize
         ensures { IsFirstPlace K.cmp target.now self.now.frame.places result }
     {
         first_place::<K>(&self.places, &self.fronts, target)
     }
 
-    /// The data block of this index, held against its place. Corrupt, where there is none: its checksum, its restarts or the order of its
-    /// keys is wrong, or one of them is no internal key, isn't above the bound of the place in front, or is above its own; Unsupported,
-    /// where it has a type other than 0 or more than 2^30 bytes. It is read into `room` where it fits, whose own bytes are
-    /// dropped.
+    /// The data block of this index, held against its place. Corrupt, where there is none: its
+    /// checksum, its restarts or the order of its keys is wrong, or one of them is no internal key,
+    /// isn't above the bound of the place in front, or is above its own; Unsupported, where it has
+    /// a type other than 0 or more than 2^30 bytes. It is read into `room` where it fits, whose own
+    /// bytes are dropped.
     pub fn block_at<S: Store>(
         &self,
         alloc: Global,
@@ -153,8 +156,9 @@ impl<K: KeyOrder> Table<K> {
         }
     }
 
-    /// The entries, in order, as the bytes of their internal keys and their values. What bounds, filter and the order
-    /// of the blocks say isn't checked. Corrupt and Unsupported as `read_data`.
+    /// The entries, in order, as the bytes of their internal keys and their values. What bounds,
+    /// filter and the order of the blocks say isn't checked. Corrupt and Unsupported as
+    /// `read_data`.
     pub fn entries<S: Store>(&self, alloc: Global, store: &mut S) -> Result<Vec<KeyValue>, DbError>
         ensures reads { Reads (S.facts store.old) (S.facts store.new) }
         ensures found { IfOk result (λ found. Answers (S.facts store.old) (S.facts store.new) self.now.name
@@ -174,9 +178,9 @@ impl<K: KeyOrder> Table<K> {
         }
     }
 
-    /// The entries as `entries`, with all else that makes the file a table: there is one at least, their keys are internal
-    /// keys, each is within the bounds of its block, and its filter admits it. Corrupt, where that isn't so, and
-    /// Corrupt and Unsupported as `read_data`.
+    /// The entries as `entries`, with all else that makes the file a table: there is one at least,
+    /// their keys are internal keys, each is within the bounds of its block, and its filter admits
+    /// it. Corrupt, where that isn't so, and Corrupt and Unsupported as `read_data`.
     pub fn check_entries<S: Store>(
         &self,
         alloc: Global,
@@ -212,9 +216,10 @@ impl<K: KeyOrder> Table<K> {
         Ok(found)
     }
 
-    /// The data block of this index, with all that makes it the block of a table checked: its keys are internal keys, each is within the
-    /// bounds of the block, and the filter admits it. Corrupt, where that isn't so or there is no such block,
-    /// and Corrupt and Unsupported as `read_data`.
+    /// The data block of this index, with all that makes it the block of a table checked: its keys
+    /// are internal keys, each is within the bounds of the block, and the filter admits it.
+    /// Corrupt, where that isn't so or there is no such block, and Corrupt and Unsupported as
+    /// `read_data`.
     pub fn check_block<S: Store>(
         &self,
         alloc: Global,
@@ -247,9 +252,9 @@ impl<K: KeyOrder> Table<K> {
         }
     }
 
-    /// The first entry whose internal key isn't below the target, an internal key, as the bytes of its key and its
-    /// value, if there is one. Of the blocks only those are read that can have it. Corrupt and Unsupported as
-    /// `read_data`.
+    /// The first entry whose internal key isn't below the target, an internal key, as the bytes of
+    /// its key and its value, if there is one. Of the blocks only those are read that can have it.
+    /// Corrupt and Unsupported as `read_data`.
     pub fn seek<S: Store>(
         &self,
         alloc: Global,
@@ -278,8 +283,8 @@ impl<K: KeyOrder> Table<K> {
         }
     }
 
-    /// Whether the data block at a handle may hold an entry of the user key: no for few keys that it doesn't hold, and
-    /// never for one that it holds. Without a filter block, yes.
+    /// Whether the data block at a handle may hold an entry of the user key: no for few keys that
+    /// it doesn't hold, and never for one that it holds. Without a filter block, yes.
     pub fn admits(&self, handle: Handle, key: &[u8]) -> bool
         ensures { MatchBool result (TableAdmits self.now.frame.filter handle.offset (hash_of key.now))
             (TableDenies self.now.frame.filter handle.offset (hash_of key.now)) }

@@ -11,7 +11,8 @@ use Rattle.memtable.specs.Order.{Placed, ordered}
 use Rattle.memtable.specs.Places.{IsPlace, first_of, up_to}
 use Rattle.cursor.specs.Places.{Cmp, Listed, Rises, is_below}
 
--- a cursor: the sequence up to which it lists entries, the node that it stands on, and the internal key at hand
+-- a cursor: the sequence up to which it lists entries, the node that it stands on, and the internal
+-- key at hand
 pub record MemoryPlace : Type 0 where
   pub sequence : ℕ
   pub node : Option ℕ
@@ -25,7 +26,8 @@ entry_listed one = internal_entry_of one.entry
 abbrev pub seen_entries : Cmp → List Entry → ℕ → List InternalEntry
 seen_entries cmp inserts sequence = map entry_listed (up_to sequence (ordered cmp inserts))
 
--- Among these entries the cursor stands on its node, with that entry's internal key at hand: so many stand in front.
+-- Among these entries the cursor stands on its node, with that entry's internal key at hand: so
+-- many stand in front.
 pub record StandsSeen (node : ℕ) (key : List ℕ) (seen : List Placed) (place : Option ℕ) : Type 0 where
   pub front : List Placed
   pub entry : Entry
@@ -48,7 +50,8 @@ pub record ListsSeen (cmp : Cmp) (cursor : MemoryPlace) (seen : List Placed) (at
 abbrev pub ListsMemory : Cmp → MemoryPlace → Contents → Listed → Type 0
 ListsMemory cmp cursor contents at = ListsSeen cmp cursor (up_to cursor.sequence (ordered cmp contents.inserts)) at
 
--- the second memory table has the entries that the cursor lists of the first, at the same nodes, and no others up to its sequence
+-- the second memory table has the entries that the cursor lists of the first, at the same nodes,
+-- and no others up to its sequence
 abbrev pub KeepsMemory : Cmp → MemoryPlace → Contents → Contents → Type 0
 KeepsMemory cmp cursor old new = up_to cursor.sequence (ordered cmp old.inserts) ≡ up_to cursor.sequence (ordered cmp new.inserts)
 

@@ -11,7 +11,8 @@ ghost use Rattle.table_access.specs.Memory.{MemoryPlace, KeepsMemory, seen_entri
 
 use ikey::KeyOrder;
 
-/// Law: what a reader at a sequence sees of the inserts, it sees of the entries that a cursor lists.
+/// Law: what a reader at a sequence sees of the inserts, it sees of the entries that a cursor
+/// lists.
 pub fn seen_entries_have_the_view()
     ensures { (cmp : List ℕ → List ℕ → Ordering) (inserts : List Entry) (sequence : ℕ) (view : View) → IsView inserts sequence view
         → IsView (map entry_of (seen_entries cmp inserts sequence)) sequence view }

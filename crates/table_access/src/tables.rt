@@ -12,8 +12,8 @@ use std::rc::Rc;
 use store::Store;
 use table::Table;
 
-// How many tables stay open: LevelDB's `max_open_files`, 1000, less ten for its other files (db/db_impl.cc,
-// `TableCacheSize`).
+// How many tables stay open: LevelDB's `max_open_files`, 1000, less ten for its other files
+// (db/db_impl.cc, `TableCacheSize`).
 const OPEN_TABLES: usize = 990;
 
 /// A store, with the tables that stay open and the blocks that were read.
@@ -34,7 +34,8 @@ impl<K: KeyOrder, S: Store> Tables<K, S> {
     ghost use Rattle.table.specs.Reading.{HasFile};
     ghost use Rattle.table.specs.Refusals.{IsFrameDamaged, IsFrameUnsupported};
 
-    /// This store, of which nothing is kept: no table stays open and no block in memory, until `begin`.
+    /// This store, of which nothing is kept: no table stays open and no block in memory, until
+    /// `begin`.
     pub fn over(store: S) -> Self
         ensures store { result.store ≡ store }
         ensures tables { result.tables.tables ≡ [] }
@@ -48,7 +49,8 @@ impl<K: KeyOrder, S: Store> Tables<K, S> {
         }
     }
 
-    /// Begins to keep what is read: at most 990 open tables, and so many blocks. Nothing that was kept before stays.
+    /// Begins to keep what is read: at most 990 open tables, and so many blocks. Nothing that was
+    /// kept before stays.
     pub fn begin(&mut self, alloc: Global, blocks: NonZeroUsize) -> Result<(), AllocError>
         ensures store { self.new.store ≡ self.old.store }
         ensures tables { OnOk result (self.new.tables.tables ≡ []) }
@@ -95,7 +97,8 @@ impl<K: KeyOrder, S: Store> Tables<K, S> {
         self.tables.get_table(alloc, &mut self.store, number)
     }
 
-    /// The data block of an index of the table of this number, as `get_table` and `BlockCache::read_block`.
+    /// The data block of an index of the table of this number, as `get_table` and
+    /// `BlockCache::read_block`.
     pub fn read_block(
         &mut self,
         alloc: Global,
@@ -123,7 +126,8 @@ pub fn empty_is_sound()
     ensures { EmptyIsSound }
 {}
 
-/// Law: what is kept stays right while tables are written under numbers of which nothing is kept, and while tables are removed.
+/// Law: what is kept stays right while tables are written under numbers of which nothing is kept,
+/// and while tables are removed.
 pub fn sound_lasts()
     ensures { SoundLasts }
 {}

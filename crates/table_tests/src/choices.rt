@@ -76,7 +76,8 @@ fn push(puts: &mut Vec<Put>, key: u8, digit: u32, sequence: u64) -> Result<(), A
     }
 }
 
-// The versions of a key, the newest first: the digits of the case to the base 5 say what happened under each sequence.
+// The versions of a key, the newest first: the digits of the case to the base 5 say what happened
+// under each sequence.
 fn push_puts(puts: &mut Vec<Put>, case: u32, key: u8) -> Result<(), AllocError> {
     push(puts, key, case / 125 % 5, 4)?;
     push(puts, key, case / 25 % 5, 3)?;

@@ -254,7 +254,8 @@ fn plan(alloc: Global) -> Result<JobPlan, AllocError> {
 
 type TestJob = Job<Bytewise, Inputs>;
 
-// How many entries are left behind a step, where it says how much it merged, and whether that was the end.
+// How many entries are left behind a step, where it says how much it merged, and whether that was
+// the end.
 fn left_behind<S: Store + Drop>(
     alloc: Global,
     job: &mut TestJob,
@@ -460,8 +461,8 @@ fn keeps_input(alloc: Global, store: &mut MemStore) -> bool {
     matches!(store.read_at(alloc, "000004.ldb", 0, 9), Ok(bytes) if bytes.as_slice() == b"in".as_slice())
 }
 
-// Whether a job is refused whose store fails at the call of this number, and leaves its inputs; None where it does
-// anything else.
+// Whether a job is refused whose store fails at the call of this number, and leaves its inputs;
+// None where it does anything else.
 fn fails_at(alloc: Global, case: &Case, call: u64) -> Option<bool> {
     let store = failing(alloc, call).ok()?;
     let mut source = Alone { store };

@@ -75,7 +75,8 @@ fn edits_stand_behind_the_manifest(rt: HostRuntime) {
     assert!(rt; are_behind(rt.alloc(), &mut MemStore::new(rt.alloc())));
 }
 
-// The number of the append that fails, how many bytes it writes, and what of the MANIFEST is there then.
+// The number of the append that fails, how many bytes it writes, and what of the MANIFEST is there
+// then.
 const FAILURES: &[(u64, usize, &[u8])] = &[
     (2, 0, b""),
     (2, 3, b"\xfa\x99\x70"),
@@ -155,8 +156,8 @@ fn no_log_has_a_number_beyond_the_last(rt: HostRuntime) {
 
 const FLUSH_MANIFEST: &str = "MANIFEST-000002";
 
-// The log number is 3, the next file number 5 and the last sequence 1, and the table 4 of 176 bytes at level 0 has the key `61`
-// at sequence 1; then the same behind a previous log.
+// The log number is 3, the next file number 5 and the last sequence 1, and the table 4 of 176 bytes
+// at level 0 has the key `61` at sequence 1; then the same behind a previous log.
 const FLUSH_EDITS: &[(u64, &[u8])] = &[
     (
         0,
@@ -213,8 +214,8 @@ const PLAN: FlushPlan = FlushPlan {
     block_bytes: 4096,
 };
 
-// Flushes it behind an empty MANIFEST into a version without tables, with the next number of these. The answer is where the
-// MANIFEST ends, and whether the new version has the table 4.
+// Flushes it behind an empty MANIFEST into a version without tables, with the next number of these.
+// The answer is where the MANIFEST ends, and whether the new version has the table 4.
 fn flushes<S: Store>(
     alloc: Global,
     store: &mut S,
@@ -248,7 +249,8 @@ fn a_flush_makes_a_table_and_its_edit(rt: HostRuntime) {
     assert!(rt; is_flushed(rt.alloc(), &mut MemStore::new(rt.alloc())));
 }
 
-// The number of the append that fails, of a block, of what stands behind the blocks or of the edit, and how the flush is refused.
+// The number of the append that fails, of a block, of what stands behind the blocks or of the edit,
+// and how the flush is refused.
 const REFUSALS: &[(u64, FlushError)] = &[
     (3, FlushError::Before(DbError::Io)),
     (4, FlushError::Before(DbError::Io)),
@@ -296,8 +298,9 @@ impl LiveTables for Tables {
     }
 }
 
-// The names of all files, the numbers of the MANIFEST, the first log and one more log, the tables in use, those that aren't or have both
-// names, once for each of their files, and the names that stay, in order and each ended by a semicolon.
+// The names of all files, the numbers of the MANIFEST, the first log and one more log, the tables
+// in use, those that aren't or have both names, once for each of their files, and the names that
+// stay, in order and each ended by a semicolon.
 struct Case {
     names: &'static [&'static str],
     numbers: (u64, u64, u64),

@@ -9,7 +9,8 @@ use table::{KeyValue, Table, TableBuilder};
 /// An entry: a user key, a sequence number, a kind and a value.
 pub type Row = (&'static [u8], u64, Kind, &'static [u8]);
 
-/// A user key and a sequence, and how many entries stand before the newest of the key up to the sequence.
+/// A user key and a sequence, and how many entries stand before the newest of the key up to the
+/// sequence.
 pub type Seek = (&'static [u8], u64, usize);
 
 /// An internal key. A sequence past the largest is the test's fault, and no line.
@@ -54,7 +55,8 @@ pub fn add<K: KeyOrder, S: Store>(
     builder.add(store, entry.key.as_slice(), entry.value.as_slice())
 }
 
-/// Writes the table of entries into the file of this name, and answers its length. There is at least one entry.
+/// Writes the table of entries into the file of this name, and answers its length. There is at
+/// least one entry.
 pub fn write<K: KeyOrder, S: Store>(
     alloc: Global,
     store: &mut S,

@@ -348,8 +348,9 @@ const APPENDED: &[Row] = &[
     (Step::Reads("001099.ldb", 10, 100, b"+"), Ok(true)),
 ];
 
-// How many more descriptors are open, once many files were made and each was read twice, rising: so each is opened again,
-// however many of the others stay open. None where one isn't read as it was written.
+// How many more descriptors are open, once many files were made and each was read twice, rising: so
+// each is opened again, however many of the others stay open. None where one isn't read as it was
+// written.
 fn kept_open(rt: &HostRuntime, folder: &str) -> Result<Option<usize>, Fail> {
     let before = open_descriptors(rt)?;
     let mut store = FileStore::open(rt, folder)?;

@@ -1,4 +1,5 @@
-//! The memory tables of an open database: the current one, the sealed one and those that are kept for readers.
+//! The memory tables of an open database: the current one, the sealed one and those that are kept
+//! for readers.
 
 ghost use Rattle.std.specs.Prelude.{◌≡◌, IfOk};
 
@@ -159,7 +160,8 @@ fn shows_what_is_sought(
     shows(cursor, alloc, memories, pairs)
 }
 
-// Whether a cursor over the table of a generation up to a sequence walks over these pairs, of which the second is of `b`.
+// Whether a cursor over the table of a generation up to a sequence walks over these pairs, of which
+// the second is of `b`.
 fn walks(
     memories: &mut MemoryTables<Bytewise>,
     alloc: Global,
@@ -193,8 +195,8 @@ fn reads_on(memories: &mut MemoryTables<Bytewise>, alloc: Global) -> Result<bool
     Ok(shows(&mut cursor, alloc, memories, &FIRST_PAIRS)? && memories.generation() == 0)
 }
 
-// The size of the current table, the last sequence, the generation of the current table, and that of the sealed one with how many
-// entries it has.
+// The size of the current table, the last sequence, the generation of the current table, and that
+// of the sealed one with how many entries it has.
 type Counts = (usize, u64, u64, Option<(u64, usize)>);
 
 fn sealed_is(memories: &MemoryTables<Bytewise>, wanted: Option<(u64, usize)>) -> bool {
@@ -304,7 +306,8 @@ const SCRIPTS: [&[Turn]; 4] = [
     &[
         Turn::Write(&FIRST), Turn::Seal, Turn::Write(&SECOND), Turn::Walks(0, 2, &FIRST_PAIRS), Turn::Walks(1, 5, &SECOND_PAIRS),
     ],
-    // The sealed table stays although nobody reads it, a flushed one stays for its reader, and then goes.
+    // The sealed table stays although nobody reads it, a flushed one stays for its reader, and then
+    // goes.
     &[
         Turn::Write(&FIRST), Turn::Seal, Turn::Write(&SECOND), Turn::Use(7), Turn::Forget(0), Turn::Walks(0, 2, &FIRST_PAIRS),
         Turn::Flushed, Turn::Seal, Turn::Flushed, Turn::Use(0), Turn::Walks(0, 2, &FIRST_PAIRS), Turn::Misses(1),

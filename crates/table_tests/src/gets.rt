@@ -12,7 +12,8 @@ use versions::Version;
 
 const PUT: Kind = Kind::Put;
 
-// Two tables of level 0, of which the newer one stands behind the older, and one of each of two deeper levels.
+// Two tables of level 0, of which the newer one stands behind the older, and one of each of two
+// deeper levels.
 #[rattlefmt::skip]
 const FILES: [File; 4] = [
     ("000005.ldb", &[(b"a", 20, PUT, b"\x01"), (b"c", 21, Kind::Delete, b"\0"), (b"cc", 22, PUT, b"\x09")]),

@@ -97,7 +97,8 @@ fn pairs_up_to(alloc: Global, limit: u32) -> Result<Vec<KeyValue>, DbError> {
     Ok(pairs)
 }
 
-// Whether a turn leads a cursor to where it leads one over the list, and a newer entry is added then.
+// Whether a turn leads a cursor to where it leads one over the list, and a newer entry is added
+// then.
 fn agrees_beside(
     cursor: &mut MemoryCursor<Bytewise>,
     alloc: Global,
@@ -110,7 +111,8 @@ fn agrees_beside(
     Ok(is_so)
 }
 
-// Whether a cursor up to this sequence walks as one over the list does, while newer entries are added.
+// Whether a cursor up to this sequence walks as one over the list does, while newer entries are
+// added.
 fn walks_as_list(alloc: Global, limit: u32) -> Result<bool, DbError> {
     let mut table = table_of(alloc)?;
     let mut list = ListCursor::new(pairs_up_to(alloc, limit)?);
@@ -135,7 +137,8 @@ fn a_cursor_walks_as_the_list_of_what_is_seen(rt: HostRuntime) {
     kept_for_all_is_same::<Bytewise>();
 }
 
-// The first turn behind which a cursor up to sequence 8 has something else at hand than what is listed above.
+// The first turn behind which a cursor up to sequence 8 has something else at hand than what is
+// listed above.
 fn elsewhere(alloc: Global) -> Result<Option<usize>, DbError> {
     let mut table = table_of(alloc)?;
     let mut cursor = MemoryCursor::new(alloc, 8);

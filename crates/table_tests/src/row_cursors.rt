@@ -39,7 +39,8 @@ const LEVEL_1: [TableRow; 3] = [
     TableRow(1, 6, 1, b"j", 5, b"l", 5),
 ];
 
-// Both ways from end to end, and seeks in front of, on, between and behind the keys, and between the tables.
+// Both ways from end to end, and seeks in front of, on, between and behind the keys, and between
+// the tables.
 #[rattlefmt::skip]
 const TURNS: [Turn; 39] = [
     Turn::First, Turn::Next, Turn::Next, Turn::Next, Turn::Next, Turn::Next, Turn::Next,
@@ -121,7 +122,8 @@ fn the_tables_beside_the_row_are_not_of_it(rt: HostRuntime) {
     }
 }
 
-// Turns from nowhere, where each leads, and how many tables it opens. Behind the last key that is none.
+// Turns from nowhere, where each leads, and how many tables it opens. Behind the last key that is
+// none.
 const OPENED: [(Turn, Option<Pair>, usize); 6] = [
     (Turn::First, B, 1),
     (Turn::Last, L, 1),

@@ -140,8 +140,8 @@ pub fn first_wrong<S: Store>(alloc: Global, store: &mut S, rows: &[Row]) -> Opti
     None
 }
 
-/// Each call where it is done, a lock that is denied, reads from an offset to the smaller of their end and the file's, and each call
-/// at a name that no file has.
+/// Each call where it is done, a lock that is denied, reads from an offset to the smaller of their
+/// end and the file's, and each call at a name that no file has.
 pub const CALLS: &[Row] = &[
     (Step::Names(""), Ok(true)),
     (Step::Create("000001.dbtmp"), Ok(true)),
@@ -281,7 +281,8 @@ fn a_copy_has_the_files_alone(rt: HostRuntime) {
 
 // ---- faults
 
-// How many bytes of `abc` come behind a log that has one, as a fault lets them, and what it has then.
+// How many bytes of `abc` come behind a log that has one, as a fault lets them, and what it has
+// then.
 const PARTS: [(usize, &[u8]); 4] = [(2, b"-abf"), (3, b"-abcf"), (9, b"-abcf"), (0, b"-f")];
 
 const PARTLY: &[Row] = &[
@@ -292,7 +293,8 @@ const PARTLY: &[Row] = &[
     (Step::Sync("log"), Ok(true)),
 ];
 
-// Whether a store counts these calls, whose third is an append of so many bytes, and the log is this then.
+// Whether a store counts these calls, whose third is an append of so many bytes, and the log is
+// this then.
 fn writes_part(alloc: Global, count: usize, log: &[u8]) -> bool {
     let fault = Fault::Fail(Extent::Part(count));
     let mut store = FaultStore::new(MemStore::new(alloc), Some(Plan { call: 3, fault }));
@@ -307,8 +309,9 @@ fn a_fault_writes_a_part_of_its_append(rt: HostRuntime) {
     }
 }
 
-// A call that a fault hits, over the one file `a` that holds `first+`, and what it leaves of the files: where it isn't done,
-// where it is, where two bytes of an append are, and where locks are denied.
+// A call that a fault hits, over the one file `a` that holds `first+`, and what it leaves of the
+// files: where it isn't done, where it is, where two bytes of an append are, and where locks are
+// denied.
 struct Hit {
     step: Step<'static>,
     undone: &'static str,
@@ -380,7 +383,8 @@ fn acts(hit: &Hit, fault: Fault) -> bool {
     }
 }
 
-// Whether these are the files: each name with its bytes behind a sign, in order and each ended by a semicolon.
+// Whether these are the files: each name with its bytes behind a sign, in order and each ended by a
+// semicolon.
 fn has_left(alloc: Global, store: &mut MemStore, wanted: &str) -> Result<bool, StoreError> {
     let mut names = store.list(alloc)?;
     names.sort()?;

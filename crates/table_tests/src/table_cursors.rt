@@ -42,7 +42,8 @@ const TURNS: [Turn; 42] = [
 
 type Source = Tables<Bytewise, MemStore>;
 
-// A store with the table 5, whose blocks are ended by so many bytes, read through a cache of so many.
+// A store with the table 5, whose blocks are ended by so many bytes, read through a cache of so
+// many.
 fn table_of(alloc: Global, block_bytes: usize, blocks: usize) -> Result<Source, DbError> {
     cached(
         alloc,
@@ -95,8 +96,8 @@ const A9: Option<Pair> = Some((b"a\x01\x09\0\0\0\0\0\0", b"\x01"));
 
 const A4: Option<Pair> = Some((b"a\x00\x04\0\0\0\0\0\0", b"\0"));
 
-// Whether a turn is refused over the damage, by which the place stays, and leads on once that is mended. The first block has 21
-// bytes and its trailer 5, so that the damage is in the second.
+// Whether a turn is refused over the damage, by which the place stays, and leads on once that is
+// mended. The first block has 21 bytes and its trailer 5, so that the damage is in the second.
 fn stays_at_damage(
     cursor: &mut TableCursor<Bytewise>,
     alloc: Global,

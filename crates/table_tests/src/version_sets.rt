@@ -29,7 +29,8 @@ enum Look {
     Covered(u32, &'static [u8], bool),
     // the user key of a level's compact pointer
     Points(u32, Option<&'static [u8]>),
-    // the compaction that is wanted, where level 0 is full with so many files, and level 1 with so many bytes
+    // the compaction that is wanted, where level 0 is full with so many files, and level 1 with so
+    // many bytes
     Picks(u64, u64, Option<Plan>),
     // the compaction of a level, or of all
     PlansLevel(u32, Option<Plan>),

@@ -100,7 +100,8 @@ pub fn agrees<S, C: Cursor<Bytewise, S>>(
     Ok(at_hand(cursor, source) == at_hand(list, &none))
 }
 
-/// The first turn that leads a cursor elsewhere than one over the list of these pairs, by its place.
+/// The first turn that leads a cursor elsewhere than one over the list of these pairs, by its
+/// place.
 pub fn first_apart<S, C: Cursor<Bytewise, S>>(
     cursor: &mut C,
     alloc: Global,

@@ -38,7 +38,8 @@ pub fn counted(alloc: Global, files: &[File], block_bytes: usize) -> Result<Faul
     Ok(FaultStore::new(stored(alloc, files, block_bytes)?, None))
 }
 
-/// A store that is read through caches of so many tables and so many blocks, which is more than none.
+/// A store that is read through caches of so many tables and so many blocks, which is more than
+/// none.
 pub fn cached<S: Store + Drop>(
     alloc: Global,
     store: S,

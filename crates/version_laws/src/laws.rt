@@ -37,7 +37,8 @@ pub fn has_ended()
     ensures { EndLaw }
 {}
 
-/// Law: the entries of a consistent directory lie in its last log, the logs before it, and its tables, each newer than the next.
+/// Law: the entries of a consistent directory lie in its last log, the logs before it, and its
+/// tables, each newer than the next.
 pub fn memory_in_front()
     ensures { MemoryLaw }
 {}

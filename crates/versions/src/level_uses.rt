@@ -22,8 +22,8 @@ pub struct LevelUse {
     pub is_due: bool,
 }
 
-/// What each level has of the tables of a layout, from level 0 to 6, and whether a compaction of it is due, where level 0 may have
-/// fewer than so many files, and level 1 so many bytes.
+/// What each level has of the tables of a layout, from level 0 to 6, and whether a compaction of it
+/// is due, where level 0 may have fewer than so many files, and level 1 so many bytes.
 pub fn uses_of_levels(
     alloc: Global,
     tables: &[PlacedTable],

@@ -19,9 +19,10 @@ use ikey::KeyOrder;
 use std::alloc::{AllocError, Global};
 use std::marker::{Model, PhantomData};
 
-/// The tables of a database by level, with the compact pointer of each level (LevelDB's db/version_set.h,
-/// `Version`). They are in order: by level, in level 0 by number, and in a deeper level each below the next, where
-/// user keys are in the order K. Contracts see the list of the tables and that of the pointers.
+/// The tables of a database by level, with the compact pointer of each level (LevelDB's
+/// db/version_set.h, `Version`). They are in order: by level, in level 0 by number, and in a deeper
+/// level each below the next, where user keys are in the order K. Contracts see the list of the
+/// tables and that of the pointers.
 #[derive(Drop)]
 pub struct Version<K: KeyOrder> {
     tables: Vec<PlacedTable>,
@@ -54,8 +55,9 @@ impl<K: KeyOrder> Version<K> {
     ghost use Rattle.edits.specs.declared.field.PlacedTable.{PlacedTable as Placed};
     ghost use Rattle.versions.specs.Searches.{EndsBelow, IsTableFor, IsSearchedAt, IsSearchedNext};
 
-    /// The version that has the tables and compact pointers of a layout. Corrupt: tables of a level below 0
-    /// overlap, or a table's smallest key is above its largest, or two tables have one number.
+    /// The version that has the tables and compact pointers of a layout. Corrupt: tables of a level
+    /// below 0 overlap, or a table's smallest key is above its largest, or two tables have one
+    /// number.
     pub fn new(alloc: Global, layout: &Layout) -> Result<Self, ReadError>
         requires { length layout.now.compact_pointers.items ≡ 7 }
         ensures found { IfOk result (λ version. HasLayout layout.now.tables.items layout.now.compact_pointers.items version) }
@@ -73,8 +75,9 @@ impl<K: KeyOrder> Version<K> {
         })
     }
 
-    /// The version after one more edit, which leaves this one as it is: deleted files go before new ones. Corrupt: a
-    /// deleted file isn't at that level, or a new one's number is there, or it doesn't fit in as in `new`.
+    /// The version after one more edit, which leaves this one as it is: deleted files go before new
+    /// ones. Corrupt: a deleted file isn't at that level, or a new one's number is there, or it
+    /// doesn't fit in as in `new`.
     pub fn after(&self, alloc: Global, edit: &[Field]) -> Result<Self, ReadError>
         ensures tables { IfOk result (λ new. LeadsLayout (after_edit edit.now) self.now.tables new.tables) }
         ensures pointers { IfOk result (λ new. new.compact_pointers ≡ pointers_after edit.now 0 self.now.compact_pointers) }
@@ -91,9 +94,9 @@ impl<K: KeyOrder> Version<K> {
         })
     }
 
-    /// The version that has the inputs of a plan as its tables, and no compact pointers: a cursor over all of its tables is
-    /// one over what the plan merges. That the inputs are in order is known of each plan for a version's tables
-    /// (`inputs_in_order`).
+    /// The version that has the inputs of a plan as its tables, and no compact pointers: a cursor
+    /// over all of its tables is one over what the plan merges. That the inputs are in order is
+    /// known of each plan for a version's tables (`inputs_in_order`).
     pub fn over_inputs(alloc: Global, plan: &JobPlan) -> Result<Self, AllocError>
         requires { AreInOrder K.cmp plan.now.inputs.items }
         ensures tables { IfOk result (λ version. version.tables ≡ plan.now.inputs.items) }
@@ -134,8 +137,9 @@ impl<K: KeyOrder> Version<K> {
         }
     }
 
-    /// The one table of a level below 0 that may hold the first key of the level from this internal key on
-    /// (LevelDB's db/version_set.cc, `FindFile`). In level 0 each table is asked, from the last one down.
+    /// The one table of a level below 0 that may hold the first key of the level from this internal
+    /// key on (LevelDB's db/version_set.cc, `FindFile`). In level 0 each table is asked, from the
+    /// last one down.
     pub fn find(&self, level: u32, key: &[u8]) -> Option<&PlacedTable>
         requires low { 0 < level }
         requires level { level < 7 }
@@ -145,10 +149,11 @@ impl<K: KeyOrder> Version<K> {
         find_at::<K>(&self.tables, level, key)
     }
 
-    /// The next table that is to be searched for an internal key, from this place on, and its place: of level 0, from the
-    /// highest number down, those that cover the user key, and then of each deeper level the one that `find` answers,
-    /// if it covers it (LevelDB's db/version_set.cc, `Version::ForEachOverlapping`). A search begins at place 0, and goes
-    /// on at the place behind that of the table. It takes no memory.
+    /// The next table that is to be searched for an internal key, from this place on, and its
+    /// place: of level 0, from the highest number down, those that cover the user key, and then of
+    /// each deeper level the one that `find` answers, if it covers it (LevelDB's db/version_set.cc,
+    /// `Version::ForEachOverlapping`). A search begins at place 0, and goes on at the place behind
+    /// that of the table. It takes no memory.
     pub fn next_searched(&self, key: &[u8], from: usize) -> Option<(usize, &PlacedTable)>
         ensures { MatchOption result
             ((place : ℕ) (placed : Placed) → from ≤ place → IsSearchedAt K.cmp key.now self.now.tables place placed → ⊥)
@@ -169,8 +174,9 @@ impl<K: KeyOrder> Version<K> {
         is_free_below::<K>(&self.tables, level, user)
     }
 
-    /// The compaction that is most wanted (LevelDB's db/version_set.cc, `VersionSet::PickCompaction`), or none where no
-    /// level from 0 to 5 needs one. OutOfMemory: there is none for the plan.
+    /// The compaction that is most wanted (LevelDB's db/version_set.cc,
+    /// `VersionSet::PickCompaction`), or none where no level from 0 to 5 needs one. OutOfMemory:
+    /// there is none for the plan.
     pub fn pick(
         &self,
         alloc: Global,
@@ -194,7 +200,8 @@ impl<K: KeyOrder> Version<K> {
         Ok(Some(plan_behind::<K>(alloc, &self.tables, level, pointer)?))
     }
 
-    /// The compaction of all tables of a level, which moves no compact pointer, or none where it has none.
+    /// The compaction of all tables of a level, which moves no compact pointer, or none where it
+    /// has none.
     pub fn plan_level(&self, alloc: Global, level: u32) -> Result<Option<JobPlan>, AllocError>
         requires { level < 6 }
         ensures { IfOk result (λ found. MatchOption found (tables_at level self.now.tables ≡ []) (λ plan. IsLevelPlan K.cmp self.now.tables level plan)) }
@@ -202,7 +209,8 @@ impl<K: KeyOrder> Version<K> {
         plan_of_level::<K>(alloc, &self.tables, level)
     }
 
-    /// The compaction of all tables into level 6, which moves no compact pointer, or none where there are none.
+    /// The compaction of all tables into level 6, which moves no compact pointer, or none where
+    /// there are none.
     pub fn plan_all(&self, alloc: Global) -> Result<Option<JobPlan>, AllocError>
         ensures { IfOk result (λ found. MatchOption found (self.now.tables ≡ []) (λ plan. IsWholePlan self.now.tables plan)) }
     {

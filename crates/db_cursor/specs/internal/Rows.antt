@@ -1,4 +1,5 @@
--- Over which memory tables and which of a version's tables a scan has cursors (LevelDB's db/version_set.cc, Version::AddIterators).
+-- Over which memory tables and which of a version's tables a scan has cursors (LevelDB's
+-- db/version_set.cc, Version::AddIterators).
 use Rattle.std.specs.Prelude.{◌+◌, ◌++◌, ℕ, zero, suc, Bool, Option, Some, None, List, [], ◌∷◌, is_some, length, map, nat_lt, false, if◌then◌else◌}
 use Rattle.edits.specs.declared.field.PlacedTable.{PlacedTable}
 use Rattle.db_cursor.specs.declared.source_cursor.SourceCursor.{SourceCursor}
@@ -6,7 +7,8 @@ use Rattle.db_cursor.specs.declared.source_cursor.SourceCursor.TheVariants.{Memo
 use Rattle.memtables.specs.Places.{MemoriesPlace}
 use Rattle.versions.specs.Levels.{tables_at}
 
--- What a new cursor goes over: a memory table, or of these tables those from one index to another. It may have opened one.
+-- What a new cursor goes over: a memory table, or of these tables those from one index to another.
+-- It may have opened one.
 pub data Spot : Type 0 where
   OfMemory : MemoriesPlace → Spot
   OfRow : List PlacedTable → ℕ → ℕ → Bool → Spot

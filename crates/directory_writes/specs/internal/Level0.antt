@@ -24,12 +24,13 @@ pair_of entry = record { key = internal_key entry; value = value_kept entry.valu
 abbrev pub pairs_of : List Placed → List Pair
 pairs_of placed = map (λ (one : Placed). pair_of one.entry) placed
 
--- Over a faithful store a block of a table of these entries is too long to be read only where they need so much room.
+-- Over a faithful store a block of a table of these entries is too long to be read only where they
+-- need so much room.
 abbrev pub IsTooLarge : Facts → List Entry → Type 0
 IsTooLarge facts entries = IsTrue facts.faithful → AreLarge entries
 
--- The files have the table of this number at level 0 with these entries, and it is what an edit may say of it. No block of
--- it is too long to be read.
+-- The files have the table of this number at level 0 with these entries, and it is what an edit may
+-- say of it. No block of it is too long to be read.
 pub record IsLevel0 (order : Order) (files : Files) (number : ℕ) (entries : List Entry) (table : TableFile) : Type 0 where
   pub content : TableContent
   pub placed : content.placed ≡ record { level = 0; table = table }

@@ -39,9 +39,9 @@ AreSnapshots entries last m kept = AreLive (IsSnapshot entries last m) kept m.sn
 
 -- ---- iterators
 
--- Over what the database reads, the iterator goes over the pairs of the machine's, which are such as its tables may have. Without damage no
--- block of them is torn, and where no limit of reading is passed, none of its tables passes one. It reads tables of its version alone, and
--- they are there.
+-- Over what the database reads, the iterator goes over the pairs of the machine's, which are such
+-- as its tables may have. Without damage no block of them is torn, and where no limit of reading is
+-- passed, none of its tables passes one. It reads tables of its version alone, and they are there.
 pub record IsLiveWalk {K : Type 0} {g : _} (cmp : List ℕ → List ℕ → Ordering) (limited damaged : Bool) (whole : Whole) (iterator : Scan K g) (walk : Walk) : Type 0 where
   pub may : MayBeWalk cmp whole iterator walk
   pub limits : limited ≡ false → damaged ≡ false → IsOnePastLimit cmp (tables_of iterator) whole → ⊥

@@ -22,7 +22,8 @@ pub enum Left {
     Names(&'static str),
     // The file of this name has these bytes and no more.
     Bytes(&'static str, &'static [u8]),
-    // A check finds the directory consistent, with these tables: the level and the number of each, and how many entries it has.
+    // A check finds the directory consistent, with these tables: the level and the number of each,
+    // and how many entries it has.
     Tables(&'static [(u32, u64, u64)]),
     // A check finds that this is the last sequence used.
     LastSequence(u64),

@@ -167,8 +167,8 @@ fn gives_the_next_ids(alloc: Global, database: &mut Db<MemStore, Bytewise>) -> b
         && matches!(database.iter_release(9), Err(DbError::NoIterator))
 }
 
-// Whether a database whose last ids given were 4 and 7 moves an iterator, whether it gave the ids that are next, and the last ones
-// that it gave.
+// Whether a database whose last ids given were 4 and 7 moves an iterator, whether it gave the ids
+// that are next, and the last ones that it gave.
 fn viewed(alloc: Global) -> Result<(bool, bool, Ids), Fail> {
     let ids = Ids {
         snapshot: 4,

@@ -3,7 +3,8 @@ use super::cases::{Case, Left, Part, assert_cases};
 use super::*;
 use std::test::Fail;
 
-// The MANIFEST of a database of no entries: its order is Bytewise, its log 2, its next file 3 and its last sequence 0.
+// The MANIFEST of a database of no entries: its order is Bytewise, its log 2, its next file 3 and
+// its last sequence 0.
 const FIRST_MANIFEST: &[u8] =
     b"\x53\x26\xfe\x5b\x22\x00\x01\x01\x1aleveldb.BytewiseComparator\x02\x02\x03\x03\x04\x00";
 
@@ -27,7 +28,8 @@ const CASES: &[Case] = &[
     Case { name: "one put leaves 24 bytes in the log", sizes: DEFAULTS, files: &[], parts: &[
         Part { script: FIRST_PUT, left: &[Left::Bytes("000002.log", ONE_PUT)] },
     ] },
-    // new numbers are above all that names of the directory have, also of files that the open removes then
+    // new numbers are above all that names of the directory have, also of files that the open
+    // removes then
     Case { name: "names that are there are not taken", sizes: DEFAULTS, files: LITTER, parts: &[
         Part { script: MADE, left: &[Left::Names("000011.log;CURRENT;LOCK;MANIFEST-000010;"), Left::Bytes("CURRENT", b"MANIFEST-000010\n"), Left::Bytes("000011.log", b"")] },
     ] },

@@ -4,8 +4,8 @@ use super::*;
 use coding::{Damage, Feature, FileKind};
 use std::test::Fail;
 
-// LevelDB made this directory: it put a, b, c and e, compacted them into level 1, put b and d and deleted c, put a again,
-// and made a table of level 0 of each of the last two at its next opens.
+// LevelDB made this directory: it put a, b, c and e, compacted them into level 1, put b and d and
+// deleted c, put a again, and made a table of level 0 of each of the last two at its next opens.
 #[rattlefmt::skip]
 pub const LEVELS: &[(&str, &[u8])] = &[
     ("CURRENT", b"MANIFEST-000018\n"),
@@ -42,7 +42,8 @@ pub const READ: &[Line<'static>] = &[
     ("seek 1 6565", "end"),
 ];
 
-// What is written lies in front of the tables, for whoever reads later, now and after the next open.
+// What is written lies in front of the tables, for whoever reads later, now and after the next
+// open.
 const WRITTEN: &[Line<'static>] = &[
     ("open", "ok"),
     ("iter", "iter 1"),
@@ -104,8 +105,8 @@ const WHOLE: &[Line<'static>] = &[
     ("get 62", "value 32"),
 ];
 
-// The block that is met answers so in the call that meets it, and the others go on answering. A move backwards looks at the entry
-// in front, for whether it is of the same key.
+// The block that is met answers so in the call that meets it, and the others go on answering. A
+// move backwards looks at the entry in front, for whether it is of the same key.
 pub const BESIDE_DAMAGE: &[Line<'static>] = &[
     ("open", "ok"),
     ("get 61", "refused Corrupt(Table, Checksum)"),

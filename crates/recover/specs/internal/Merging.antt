@@ -133,14 +133,16 @@ pub record IsMerging {K : Type 0} (order : Order) (files : Files) (logged : List
 
 -- ---- which entry comes next
 
--- of the first lanes, so many, none stands; or the one at this index stands, and none that does comes in front of it
+-- of the first lanes, so many, none stands; or the one at this index stands, and none that does
+-- comes in front of it
 abbrev pub IsLeastOf : {K : Type 0} → Order → List (Lane K) → ℕ → Option ℕ → Type 0
 IsLeastOf {K} order lanes count None = (i : ℕ) (lane : Lane K) → i < count → slice_get lanes i ≡ Some lane → lane.stands ≡ true → ⊥
 IsLeastOf {K} order lanes count (Some at) =
     (lane : Lane K) × (slice_get lanes at ≡ Some lane) × (lane.stands ≡ true)
     × ((j : ℕ) (other : Lane K) → j < count → slice_get lanes j ≡ Some other → other.stands ≡ true → IsHeadBefore order other.walk.head lane.walk.head → ⊥)
 
--- behind the last entry, in front of which it doesn't stand, the one at which the lane stands may come
+-- behind the last entry, in front of which it doesn't stand, the one at which the lane stands may
+-- come
 abbrev pub MayComeNext : {K : Type 0} → Last → Lane K → Type 0
 MayComeNext last lane = last.some ≡ true → last.head.user.items ≡ lane.walk.head.user.items
     → (lane.walk.head.sequence < last.head.sequence) × IsNoNewer last.level last.place lane.level lane.place
@@ -212,14 +214,16 @@ abbrev pub DoesWait : List PlacedTable → List Bool → ℕ → Key → Type 0
 DoesWait tables begun place key =
     (placed : PlacedTable) × (slice_get tables place ≡ Some placed) × (slice_get begun place ≡ Some false) × IsKey placed.table.smallest key
 
--- Of the first tables, so many, none waits; or the one at this place waits with this key, and none does in front of it.
+-- Of the first tables, so many, none waits; or the one at this place waits with this key, and none
+-- does in front of it.
 abbrev pub IsSoonestOf : Order → List PlacedTable → List Bool → ℕ → Option (ℕ × InternalKey) → Type 0
 IsSoonestOf order tables begun count None = (place : ℕ) (key : Key) → place < count → DoesWait tables begun place key → ⊥
 IsSoonestOf order tables begun count (Some best) = DoesWait tables begun best.0 (key_of best.1)
     × ((place : ℕ) (key : Key) → place < count → DoesWait tables begun place key
     → ComesBefore order (stamp key.user key.sequence) (stamp best.1.user.now best.1.sequence) → ⊥)
 
--- none of the tables waits; or the one at this place waits with this key, and none does in front of it
+-- none of the tables waits; or the one at this place waits with this key, and none does in front of
+-- it
 abbrev pub IsSoonest : Order → List PlacedTable → List Bool → Option (ℕ × InternalKey) → Type 0
 IsSoonest order tables begun None = (place : ℕ) (placed : PlacedTable) (key : Key)
     → slice_get tables place ≡ Some placed → slice_get begun place ≡ Some false → IsKey placed.table.smallest key → ⊥
@@ -241,8 +245,8 @@ IsWithin order head (Some key) = ComesBefore order (stamp head.user.items head.s
 abbrev pub IsNotOldEntry : List Entry → List ℕ → ℕ → Type 0
 IsNotOldEntry entries key sequence = (l : Entry) × Among entries l × (l.key ≡ key) × (l.sequence ≤ sequence)
 
--- The entry at which the lane stands is newer than the recorded sequence, or not older than what is logged of its key, or breaks the
--- row; and each is refused by an error of its own.
+-- The entry at which the lane stands is newer than the recorded sequence, or not older than what is
+-- logged of its key, or breaks the row; and each is refused by an error of its own.
 abbrev pub Misplaces : {K : Type 0} → List Entry → ℕ → Last → Lane K → DbError → Type 0
 Misplaces entries recorded last lane error =
     ((error ≡ Corrupt file.Table damage.Number) × (recorded < lane.walk.head.sequence))

@@ -50,7 +50,8 @@ in_file kind read_error.Memory = error.OutOfMemory
 in_file kind (read_error.Corrupt what) = error.Corrupt kind what
 in_file kind (read_error.Unsupported what) = error.Unsupported what
 
--- Why the bytes of a file weren't read: out of memory, since they are damaged, or since they are past what is supported.
+-- Why the bytes of a file weren't read: out of memory, since they are damaged, or since they are
+-- past what is supported.
 abbrev pub RefusesBytes : DbError → Type 0 → Type 0 → Type 0
 RefusesBytes error.OutOfMemory damaged unsupported = Unit {0}
 RefusesBytes (error.Corrupt file what) damaged unsupported = damaged

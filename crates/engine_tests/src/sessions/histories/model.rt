@@ -22,7 +22,8 @@ struct Written {
     is_put: bool,
 }
 
-// A snapshot or an iterator: its id, the number of the last write that it sees, and at which key it stands, if it does.
+// A snapshot or an iterator: its id, the number of the last write that it sees, and at which key it
+// stands, if it does.
 #[derive(Clone, Copy)]
 struct View {
     id: u64,
