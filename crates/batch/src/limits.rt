@@ -35,7 +35,7 @@ pub fn refusal(operations: &[Operation]) -> Option<DbError>
     length_of(operations).err()
 }
 
-/// Law: a batch with one operation more is refused where it was before, or else where that
+/// Proves that a batch with one operation more is refused where it was before, or else where that
 /// operation is. So what `put` and `delete` make of an empty batch is never refused.
 pub fn refusal_with_one_more()
     ensures { (operations : List OperationValue) (next : OperationValue)

@@ -151,7 +151,7 @@ impl Batch {
     }
 }
 
-/// Law: no bytes are two batches.
+/// Proves that no bytes are two batches.
 pub fn one_batch()
     ensures { (bytes : List ℕ) (sequence other : ℕ) (operations others : List OperationValue)
         → IsBatch bytes sequence operations → IsBatch bytes other others → (sequence ≡ other) × (operations ≡ others) }

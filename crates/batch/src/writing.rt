@@ -110,8 +110,8 @@ fn put_operation(out: &mut Vec<u8>, operation: &Operation) -> Result<(), AllocEr
     }
 }
 
-/// Law: an encoding is as long as its operations make it; one of operations that aren't refused is
-/// within the limits of a batch.
+/// Proves that an encoding is as long as its operations make it; one of operations that aren't
+/// refused is within the limits of a batch.
 pub fn encoding_length()
     ensures length { (bytes : List ℕ) (sequence : ℕ) (operations : List OperationValue)
         → IsBatch bytes sequence operations → length bytes ≡ encoded_length operations }

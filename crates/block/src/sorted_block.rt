@@ -182,7 +182,7 @@ fn is_at_most<O: EntryOrder>(key: &[u8], most: &[u8]) -> bool
     O::is_below(key, most)
 }
 
-/// Law: no bytes are the encoding of two lists of pairs.
+/// Proves that no bytes are the encoding of two lists of pairs.
 pub fn one_block<O: EntryOrder>()
     ensures { (bytes : List ℕ) (pairs others : List Pair) → IsBlock O.below bytes pairs → IsBlock O.below bytes others → pairs ≡ others }
 {}

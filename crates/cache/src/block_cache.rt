@@ -248,7 +248,8 @@ fn memory_of<K: KeyOrder>(pushed: Pushed<K>) -> Option<Vec<u8>> {
     Some(block.into_memory())
 }
 
-/// Law: what is kept stays right while tables come into use under new numbers and go out of use.
+/// Proves that what is kept stays right while tables come into use under new numbers and go out of
+/// use.
 pub fn blocks_last()
     ensures { BlocksLast }
 {}

@@ -224,8 +224,8 @@ fn evict_from<K: KeyOrder>(tables: &mut LruCache<u64, Rc<Table<K>>>, number: u64
     let _table = tables.pop(&number);
 }
 
-/// Law: what is kept stays right while tables come into use under new numbers and go out of use,
-/// and the files of those in use stay.
+/// Proves that what is kept stays right while tables come into use under new numbers and go out of
+/// use, and the files of those in use stay.
 pub fn tables_last()
     ensures { TablesLast }
 {}

@@ -114,7 +114,7 @@ fn varint_at(bytes: &[u8], limit: u64) -> Option<(u64, usize)>
     }
 }
 
-/// Law: no encoding of a number begins that of another,
+/// Proves that no encoding of a number begins that of another,
 /// and each number has one. So what was written is read again, whatever follows it.
 pub fn one_varint()
     ensures { (a b x y : List ℕ) (m n : ℕ) → IsVarint a m → IsVarint b n → a ++ x ≡ b ++ y → (a ≡ b) × (m ≡ n) }

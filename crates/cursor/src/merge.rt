@@ -62,8 +62,8 @@ impl<K: KeyOrder, C: Drop> Merge<K, C> {
     }
 }
 
-/// Law: where each cursor of a new merge stands nowhere in a list, the merge stands nowhere in the
-/// lists' union.
+/// Proves that where each cursor of a new merge stands nowhere in a list, the merge stands nowhere
+/// in the lists' union.
 pub fn merge_begins<K: KeyOrder, S, C: Cursor<K, S>>(merge: &Merge<K, C>, source: &S)
     requires nowhere { merge.now.current ≡ None }
     requires astray { AllByRecursion (λ child. child.side ≡ Side.Astray) merge.now.children.items }

@@ -62,8 +62,8 @@ impl<K: KeyOrder, C> Visible<K, C> {
         }
     }
 
-    /// Law: where the cursor beneath stands anywhere in a list, a new walk stands nowhere in the
-    /// list of what is visible there.
+    /// Proves that where the cursor beneath stands anywhere in a list, a new walk stands nowhere in
+    /// the list of what is visible there.
     pub fn begins<S>(&self, source: &S)
     where
         C: Cursor<K, S>,

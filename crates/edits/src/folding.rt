@@ -261,7 +261,7 @@ fn pointer_in_field(field: &Field, level: u32) -> Option<&[u8]>
     }
 }
 
-/// Law: no edits leave two layouts.
+/// Proves that no edits leave two layouts.
 pub fn one_layout()
     ensures { (name : List ℕ) (edits : List (List FieldValue)) (layout other : LayoutValue)
         → IsLayout name edits layout → IsLayout name edits other

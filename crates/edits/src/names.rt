@@ -158,7 +158,7 @@ fn push_number(alloc: Global, name: &mut String, n: u64) -> Result<(), AllocErro
     name.push_str(digits.as_str())
 }
 
-/// Law: no two files have one name.
+/// Proves that no two files have one name.
 pub fn one_name()
     ensures { (file other : FileNameValue) → IsFileName file → IsFileName other → name_of file ≡ name_of other → file ≡ other }
 {}

@@ -105,7 +105,7 @@ fn push_previous(edit: &mut Edit, number: u64) -> Result<(), AllocError>
     edit.push(Field::PreviousLogNumber(number))
 }
 
-/// Law: what edits leave that were read is a layout that `snapshot_edit` takes.
+/// Proves that what edits leave that were read is a layout that `snapshot_edit` takes.
 pub fn layouts_are_kept()
     ensures { (name : List ℕ) (edits : List (List FieldValue)) (layout : LayoutValue)
         → AllByRecursion WasRead edits → IsLayout name edits layout → IsKept layout }

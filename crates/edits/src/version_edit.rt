@@ -60,7 +60,7 @@ impl Edit {
     }
 }
 
-/// Law: no bytes are two edits.
+/// Proves that no bytes are two edits.
 pub fn one_edit()
     ensures { (bytes : List ℕ) (edit other : List FieldValue) → IsEdit bytes edit → IsEdit bytes other → edit ≡ other }
 {}

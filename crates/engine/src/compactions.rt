@@ -36,9 +36,9 @@ impl<K: KeyOrder> DbState<K> {
     ghost use Rattle.directory_writes.specs.Replacing.{ReplacesInputs};
     ghost use Rattle.versions.specs.Plans.{IsPlanOf, IsWholePlan};
 
-    /// Brings the compaction under way to its end, and then compacts all tables of a level, with
-    /// those of the next one whose keys meet theirs, into the next one. It moves no compact
-    /// pointer. BadLevel: the level isn't one of 0 to 5.
+    /// Ends the compaction under way, and then compacts all tables of a level into the next one,
+    /// with the tables there whose keys overlap theirs. It moves no compact pointer. BadLevel: the
+    /// level isn't one of 0 to 5.
     pub fn compact_level<S: Store>(
         &mut self,
         alloc: Global,
@@ -71,8 +71,8 @@ impl<K: KeyOrder> DbState<K> {
         self.compact_tables_of(alloc, source, options, level)
     }
 
-    /// Brings the compaction under way to its end, writes what is in memory into tables, and then
-    /// compacts all tables into the last level. It moves no compact pointer.
+    /// Ends the compaction under way, writes what is in memory into tables, and then compacts all
+    /// tables into the last level. It moves no compact pointer.
     pub fn compact_all<S: Store>(
         &mut self,
         alloc: Global,
@@ -281,8 +281,8 @@ impl<K: KeyOrder> DbState<K> {
             (seen_of S.facts source.new) (open_db source.old.memory self.old) (open_db source.new.memory self.new)) }
         ensures stops { KeepsLent (order_of K.name K.cmp) S.facts source.old self.old source.new }
     {
-        // A loop without a measure: as many turns as 64 bits count, and out of memory behind them,
-        // which no run reaches.
+        // A loop without a measure: at most as many turns as 64 bits count, and then out of memory.
+        // No run reaches that.
         for _ in 0..u64::MAX {
             if self.step_job(alloc, source, 1)? {
                 return Ok(());

@@ -109,7 +109,7 @@ pub fn seek_key(alloc: Global, user: &[u8], sequence: u64) -> Result<Vec<u8>, Al
     pack(alloc, user, sequence, Kind::Put)
 }
 
-/// Law: no bytes are two internal keys.
+/// Proves that no bytes are two internal keys.
 pub fn one_key()
     ensures { (bytes : List ℕ) (k l : Key) → IsKey bytes k → IsKey bytes l → k ≡ l }
 {}

@@ -109,8 +109,9 @@ impl<K: KeyOrder> MemoryTables<K> {
         self.last
     }
 
-    /// Law: no entry is above the last sequence, the older tables, among which the sealed one is,
-    /// have lower generations, and the current table's entries are newer than the sealed one's.
+    /// Proves that no entry is above the last sequence, the older tables, among which the sealed
+    /// one is, have lower generations, and the current table's entries are newer than the sealed
+    /// one's.
     pub fn are_bounded(&self)
         ensures { AreMemories self.now }
     {

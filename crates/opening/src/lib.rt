@@ -1,4 +1,4 @@
-//! What an open finds in a directory and what it writes there, before there is a database: no
+//! What an open finds in a directory and what it writes there, before there is a database. No
 //! contract here names an open one (LevelDB's db/db_impl.cc, DBImpl::Recover and DBImpl::NewDB).
 #![tactic(auto)]
 

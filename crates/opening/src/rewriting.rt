@@ -29,7 +29,7 @@ use recover::{
 use std::alloc::{AllocError, Global};
 use store::Store;
 
-/// The names and the bytes that an open writes.
+/// Holds the names and the bytes that an open writes.
 #[derive(Debug, Drop)]
 pub struct Rewrite {
     /// The name of the new MANIFEST.
@@ -42,11 +42,11 @@ pub struct Rewrite {
     pub current: Vec<u8>,
     /// The name of the new log.
     pub log_name: String,
-    /// The names of the logs in front of it, where they have entries.
+    /// The names of the logs before it that have entries.
     pub front: Vec<String>,
 }
 
-/// All that an open writes, before it writes any of it.
+/// Plans all that an open writes, before it writes any of it.
 pub fn plan_rewrite<K: KeyOrder>(alloc: Global, found: &Found) -> Result<Rewrite, DbError>
     requires { IsUsable (order_of K.name K.cmp) found.now }
     ensures planned { IfOk result (IsRewrite (order_of K.name K.cmp) found.now) }
@@ -69,8 +69,7 @@ pub fn plan_rewrite<K: KeyOrder>(alloc: Global, found: &Found) -> Result<Rewrite
     })
 }
 
-// The names of the logs that were found, where they have entries: who wrote these may not have had
-// the device keep them.
+// The names of the logs that were found and have entries: their writer may not have synced them.
 fn logs_in_front(alloc: Global, found: &Found) -> Result<Vec<String>, AllocError>
     ensures { IfOk result (λ names. IsFront found.now (map string_bytes names.items)) }
 {
@@ -84,7 +83,7 @@ fn logs_in_front(alloc: Global, found: &Found) -> Result<Vec<String>, AllocError
     Ok(names)
 }
 
-// Puts the name of a log behind the others. (None has the number 0.)
+// Adds the name of a log to the others. (None has the number 0.)
 fn push_name(alloc: Global, names: &mut Vec<String>, log: &LogSummary) -> Result<(), AllocError>
     ensures { OnOk result (map string_bytes names.new.items ≡ map string_bytes names.old.items ++ names_of_log log.now.number) }
 {
@@ -106,7 +105,7 @@ fn current_content(alloc: Global, name: &str) -> Result<Vec<u8>, AllocError>
     Ok(content)
 }
 
-// The numbers by which a layout says which logs are live.
+// The numbers by which a layout says which logs are in use.
 #[derive(Clone, Copy, Debug)]
 struct LiveLogs {
     // this number and those above it
@@ -152,7 +151,8 @@ fn new_manifest<K: KeyOrder>(alloc: Global, found: &Found) -> Result<Vec<u8>, Db
     LogWriter::encode(alloc, 0, &payload)
 }
 
-/// What is known of the directory once that is written, with a MANIFEST of this name and length.
+/// Returns what is known of the directory once that is written, with a MANIFEST of this name and
+/// length.
 pub fn known_after(found: &Found, name: String, end: u64) -> DirectoryState
     requires { found.now.number + 1 < 2 ^ 62 }
     ensures { IsKnownAfter found.now (string_bytes name) end result }
@@ -196,7 +196,7 @@ pub fn rewrite_directory<K: KeyOrder, S: Store>(
         (S.facts store.old).files files) }
     ensures since { IsTrue (S.facts store.new).faithful → Finds (order_of K.name K.cmp) (S.facts store.old).files found.now
         → OnOk result (BeginsSpared (S.facts store.new) (string_bytes rewrite.now.log_name)) }
-    // So is what a loss of power leaves in its middle, where it cuts no file short that was there.
+    // So is what a power loss in its middle leaves, if it truncates no file that was there.
     ensures loses { IsTrue (S.facts store.new).faithful → Finds (order_of K.name K.cmp) (S.facts store.old).files found.now
         → HaveNamesStayed (S.facts store.old) → LosesOnly (S.facts store.old) (S.facts store.new)
         (λ lost. LeavesUncut (S.facts store.old) lost → IsButLock (IsContinued (order_of K.name K.cmp) (S.facts store.old).files) lost) }

@@ -16,7 +16,7 @@ use std::alloc::Global;
 use store::Store;
 
 impl Movement<'_> {
-    /// Whether it starts from a place.
+    /// Returns whether it starts from a place.
     pub fn needs_place(&self) -> bool
         ensures { result ≡ needs_place (motion_of self.now) }
     {
@@ -30,9 +30,9 @@ impl Movement<'_> {
     }
 }
 
-/// Moves an iterator, and answers a copy of the pair on which it stands then: nothing where there
-/// is none. `NoPlace` for a step of one that stands nowhere. Where the move or the copy is refused,
-/// it stays where it stood.
+/// Moves an iterator, and returns a copy of the pair on which it stands then, or None if there is
+/// none. `NoPlace`: a step of an iterator that stands nowhere. If the move or the copy fails, it
+/// stays where it stood.
 pub fn move_iterator<K: KeyOrder, S: Store>(
     alloc: Global,
     source: &mut Sources<K, S>,

@@ -1,4 +1,4 @@
-//! A compaction that is under way over what an open database reads: it is begun, goes on by steps
+//! A compaction that is under way over what an open database reads. It is begun, goes on by steps
 //! with a budget of entries, and lives on while others write, read and flush (LevelDB's
 //! db/db_impl.cc, DBImpl::BackgroundCompaction).
 #![tactic(auto)]

@@ -30,14 +30,14 @@ use table_access::sound_lasts;
 use version_laws::version_of_part;
 use versions::{JobPlan, Version, inputs_in_order};
 
-/// A job over the tables of a plan's inputs, with the version for which the plan was made: its
-/// tables below the output level are those whose keys a delete is kept for.
+/// Holds a job over the tables of a plan's inputs, with the version for which the plan was made. A
+/// delete is kept for the keys of that version's tables below the output level.
 #[derive(Drop)]
 pub struct OpenJob<K: KeyOrder> {
     job: Job<K, Merge<K, SourceCursor<K>>>,
     version: Rc<Version<K>>,
-    /// The number that was next when the job last drew one: those of its tables are below it.
-    /// Behind a refusal it is above all numbers, so that the job can't go on.
+    /// The number that was next when the job last drew one: those of its tables are below it. After
+    /// an error it is above all numbers, so that the job can't go on.
     next: u64,
     /// How many entries of its inputs came.
     merged: u64,
@@ -140,9 +140,9 @@ impl<K: KeyOrder> OpenJob<K> {
         })
     }
 
-    /// Merges so many entries, or one for 0, or all that are left where those are fewer. Corrupt
-    /// where the numbers are older than those of the job. After an `Err` the job is to be given up:
-    /// the files that it wrote are no part of the directory, and its inputs are as they were.
+    /// Merges so many entries, or one for 0, or all that are left if those are fewer. Corrupt: the
+    /// numbers are older than those of the job. After an `Err` the job must be given up: the files
+    /// that it wrote are no part of the directory, and its inputs are as they were.
     pub fn step<S: Store>(
         &mut self,
         alloc: Global,
@@ -212,11 +212,11 @@ impl<K: KeyOrder> OpenJob<K> {
         Ok(progress)
     }
 
-    /// Ends the job once all entries of its inputs came, and puts its edit behind the MANIFEST, so
-    /// that its outputs are in the place of its inputs (see `directory_writes::install_job`).
-    /// Corrupt where the numbers are older than those of the job or the version isn't that of its
-    /// inputs, and NumbersSpent where they are above 2^62. After a refusal the files that it wrote
-    /// are no part of the directory.
+    /// Ends the job once all entries of its inputs came, and appends its edit to the MANIFEST, so
+    /// that its outputs replace its inputs (see `directory_writes::install_job`). Corrupt: the
+    /// numbers are older than those of the job, or the version isn't that of its inputs.
+    /// NumbersSpent: they are above 2^62. After an error the files that it wrote are no part of the
+    /// directory.
     pub fn install<S: Store>(
         self,
         alloc: Global,
@@ -276,21 +276,21 @@ impl<K: KeyOrder> OpenJob<K> {
         install_job(alloc, store, job, version, manifest, numbers, last_sequence)
     }
 
-    /// What it compacts.
+    /// Returns what it compacts.
     pub fn plan(&self) -> &JobPlan
         ensures { result.now ≡ self.now.job.plan }
     {
         self.job.plan()
     }
 
-    /// Whether the table of this number is one of the inputs.
+    /// Returns whether the table of this number is one of the inputs.
     pub fn reads(&self, number: u64) -> bool
         ensures { MatchBool result (HasTable number self.now.job.plan.inputs.items) (HasTable number self.now.job.plan.inputs.items → ⊥) }
     {
         has_number(&self.job.plan().inputs, number)
     }
 
-    /// Whether the table of this number is one that the job writes.
+    /// Returns whether the table of this number is one that the job writes.
     pub fn writes(&self, number: u64) -> bool
         ensures { MatchBool result (IsOwn self.now.job.outputs number) (IsOwn self.now.job.outputs number → ⊥) }
     {

@@ -302,7 +302,7 @@ fn floor_of(places: &[Place], index: usize) -> Option<&[u8]>
     Some(place.key.as_slice())
 }
 
-/// Law: no file is two tables.
+/// Proves that no file is two tables.
 pub fn one_table()
     ensures { OneTable }
 {}

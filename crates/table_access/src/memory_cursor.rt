@@ -70,8 +70,8 @@ impl<K: KeyOrder> MemoryCursor<K> {
         }
     }
 
-    /// Law: a cursor that stands nowhere, as a new one does, stands for what is seen of any memory
-    /// table at its sequence.
+    /// Proves that a cursor that stands nowhere, as a new one does, stands for what is seen of any
+    /// memory table at its sequence.
     pub fn begins(&self, table: &MemTable<K>)
         requires { self.now.node ≡ None }
         ensures { ListsMemory K.cmp self.now table.now (listed (seen_entries K.cmp table.now.inserts self.now.sequence) None) }

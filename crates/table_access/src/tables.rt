@@ -121,18 +121,18 @@ impl<K: KeyOrder, S: Store> Tables<K, S> {
     }
 }
 
-/// Law: where nothing is kept, all that is kept is right.
+/// Proves that where nothing is kept, all that is kept is right.
 pub fn empty_is_sound()
     ensures { EmptyIsSound }
 {}
 
-/// Law: what is kept stays right while tables are written under numbers of which nothing is kept,
-/// and while tables are removed.
+/// Proves that what is kept stays right while tables are written under numbers of which nothing is
+/// kept, and while tables are removed.
 pub fn sound_lasts()
     ensures { SoundLasts }
 {}
 
-/// Law: what is kept stays right while the files of tables stay.
+/// Proves that what is kept stays right while the files of tables stay.
 pub fn sound_stays()
     ensures { SoundStays }
 {}

@@ -80,7 +80,7 @@ fn bytes_of(tables: &[PlacedTable]) -> u64
     bytes
 }
 
-// Law: tables by level and number are by level.
+// Proves that tables by level and number are by level.
 fn levels_rise(tables: &[PlacedTable])
     requires { AreInPlace tables.now }
     ensures { AllPairs (λ a b. a.level ≤ b.level) tables.now }
