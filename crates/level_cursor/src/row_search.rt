@@ -25,7 +25,7 @@ use std::alloc::Global;
 use store::Store;
 use table_access::{TableCursor, Tables};
 
-/// What a search on looks for.
+/// Tells what a search on looks for.
 #[derive(Clone, Copy)]
 pub enum Aim<'a> {
     /// The first entry.
@@ -67,7 +67,7 @@ pub fn search_on<K: KeyOrder, S: Store>(
     Ok(None)
 }
 
-/// Looks for the last entry of the tables in front of one. Corrupt and Unsupported as `search_on`.
+/// Looks for the last entry of the tables before one. Corrupt and Unsupported as `search_on`.
 pub fn search_back<K: KeyOrder, S: Store>(
     alloc: Global,
     source: &mut Tables<K, S>,
@@ -100,8 +100,8 @@ pub fn search_back<K: KeyOrder, S: Store>(
     Ok(None)
 }
 
-/// The index of the first table that doesn't end below the key, an internal one (LevelDB's
-/// db/version_set.cc, FindFile). Where the tables lie in no row it is some index.
+/// Returns the index of the first table that doesn't end below the key, an internal one (LevelDB's
+/// db/version_set.cc, FindFile). If the tables aren't in the order of their keys it is some index.
 pub fn first_table<K: KeyOrder>(row: &[PlacedTable], target: &[u8]) -> usize
     ensures { IsFirstTable K.cmp target.now row.now result }
 {

@@ -1,4 +1,4 @@
-//! The memory tables of an open database: the one that writes go to, the one that is sealed until a
+//! The memtables of an open database: the one that writes go to, the one that is sealed until a
 //! table file has its entries, and those that open iterators still read.
 #![tactic(auto)]
 

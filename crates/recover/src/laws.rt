@@ -3,7 +3,7 @@
 ghost use Rattle.recover.specs.internal.Laws.{AppendLaw, FailedAppendLaw, FreeChangeLaw, ReopenLaw, NewLogLaw, EmptyLaw, NumberLaw, AppendableLaw, OneManifestLaw, OneDirectoryLaw};
 ghost use Rattle.recover.specs.internal.Changes.{ExtendLaw, FailedExtendLaw, BeginLogLaw, EditLaw, FailedEditLaw, SameManifestLaw, FlushLaw, CompactionLaw, ClosedLaw, UnreadLaw, DistinctLaw, BeyondLaw, RecoveredLaw};
 
-/// Proves that a record for the next batch behind the last log adds the batch's entries.
+/// Proves that a record for the next batch at the end of the last log adds the batch's entries.
 pub fn append_law()
     ensures { AppendLaw }
 {}
@@ -23,7 +23,7 @@ pub fn reopen_law()
     ensures { ReopenLaw }
 {}
 
-/// Proves that a new log behind the others means the same.
+/// Proves that a new log after the others means the same.
 pub fn new_log_law()
     ensures { NewLogLaw }
 {}
@@ -54,24 +54,24 @@ pub fn one_directory()
     ensures { OneDirectoryLaw }
 {}
 
-/// Proves that a record for the next batch behind the last log adds the batch's entries there, and
-/// changes no other part.
+/// Proves that a record for the next batch at the end of the last log adds the batch's entries
+/// there, and changes no other part.
 pub fn extend_law()
     ensures { ExtendLaw }
 {}
 
-/// Proves that a beginning of such a record changes no part but the last log, and adds nothing to
-/// it, or all of the batch's entries.
+/// Proves that a beginning of such a record changes no part but the last log. It adds nothing to
+/// that, or all of the batch's entries.
 pub fn failed_extend_law()
     ensures { FailedExtendLaw }
 {}
 
-/// Proves that a new log behind the others changes no other part.
+/// Proves that a new log after the others changes no other part.
 pub fn begin_log_law()
     ensures { BeginLogLaw }
 {}
 
-/// Proves that a record for an edit behind the MANIFEST adds the edit.
+/// Proves that a record for an edit at the end of the MANIFEST adds the edit.
 pub fn edit_law()
     ensures { EditLaw }
 {}
@@ -86,14 +86,14 @@ pub fn same_manifest_law()
     ensures { SameManifestLaw }
 {}
 
-/// Proves that a table of level 0 in place of what was logged before the current log means the
+/// Proves that a table of level 0, instead of what was logged before the current log, means the
 /// same.
 pub fn flush_law()
     ensures { FlushLaw }
 {}
 
-/// Proves that outputs in place of inputs leave a consistent directory, with the outputs' entries
-/// in place of the inputs'.
+/// Proves that outputs instead of inputs leave a consistent directory, with the outputs' entries
+/// instead of the inputs'.
 pub fn compaction_law()
     ensures { CompactionLaw }
 {}

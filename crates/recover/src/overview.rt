@@ -23,7 +23,7 @@ use ikey::KeyOrder;
 use std::alloc::Global;
 use store::{Store, Why};
 
-/// What is known of a directory without reading a table or a log.
+/// Holds what is known of a directory without reading a table or a log.
 #[derive(Debug, Drop)]
 pub struct Overview {
     /// What the edits of its MANIFEST leave.
@@ -32,7 +32,7 @@ pub struct Overview {
     pub logs: Vec<LogLength>,
 }
 
-/// A live log, and how many bytes its file has.
+/// Names a log in use, and says how many bytes its file has.
 #[derive(Clone, Copy, Debug, PartialEq, Eq)]
 pub struct LogLength {
     /// The number in its name.
@@ -41,13 +41,13 @@ pub struct LogLength {
     pub length: u64,
 }
 
-/// Reads `CURRENT` and the MANIFEST that it names, and asks how long the live logs are; or `None`
-/// of a directory without a database. No table and no log is read, and none is asked for that isn't
-/// listed, so that damage in these isn't found.
+/// Reads `CURRENT` and the MANIFEST that it names, and asks how long the logs in use are; `None`:
+/// there is no database. No table and no log is read, and none is asked for that isn't listed, so
+/// that damage in these isn't found.
 ///
-/// Corrupt comes as from `read_directory`, where the MANIFEST can't be read, or where there is a
-/// table or a log and no `CURRENT`; Unsupported where the MANIFEST names another order of keys
-/// (`Comparator`) or a table number of 2^62 or more (`TableNumber`).
+/// Corrupt: the MANIFEST can't be read, as from `read_directory`, or there is a table or a log but
+/// no `CURRENT`. Unsupported: the MANIFEST names another order of keys (`Comparator`) or a table
+/// number of 2^62 or more (`TableNumber`).
 pub fn overview_of<K: KeyOrder, S: Store>(
     alloc: Global,
     store: &mut S,
@@ -71,7 +71,7 @@ pub fn overview_of<K: KeyOrder, S: Store>(
     Ok(Some(Overview { layout, logs }))
 }
 
-// Those of these logs that are live in the layout, with their lengths.
+// Those of these logs that are in use in the layout, with their lengths.
 fn live_lengths<S: Store>(
     alloc: Global,
     store: &mut S,

@@ -19,9 +19,10 @@ use std::cmp::Ordering;
 use std::marker::{Model, PhantomData};
 use std::mem;
 
-/// A cursor over the entries of a memory table up to a sequence; those above it are stepped over.
-/// Contracts see the sequence, the node on which it stands, if it stands on one, and the internal
-/// key at hand. Entries that are added behind it leave its list where their sequences are greater.
+/// Holds a cursor over the entries of a memtable up to a sequence number; those above it are
+/// stepped over. Contracts see the sequence number, the node on which it stands, if it stands on
+/// one, and the internal key at hand. Entries that are added later don't change its list if their
+/// sequence numbers are greater.
 #[derive(Drop)]
 pub struct MemoryCursor<K: KeyOrder> {
     sequence: u64,
@@ -55,8 +56,8 @@ impl<K: KeyOrder> MemoryCursor<K> {
     ghost use Rattle.cursor.specs.Merging.{listed};
     ghost use Rattle.table_access.specs.Memory.{ListsMemory, seen_entries, IsSeen, IsKeyAt};
 
-    /// A cursor over the entries up to the sequence, which is below `SEQUENCE_END`. It stands
-    /// nowhere, and takes no memory.
+    /// Makes a cursor over the entries up to the sequence number, which is below `SEQUENCE_END`. It
+    /// stands nowhere, and takes no memory.
     pub fn new(alloc: Global, sequence: u64) -> Self
         requires { sequence < 2 ^ 56 }
         ensures { result ≡ record { sequence = sequence; node = None; key = [] } }
@@ -285,8 +286,8 @@ fn seen_back<K: KeyOrder>(table: &MemTable<K>, sequence: u64, node: Option<Node>
 }
 
 // The place of the first entry whose internal key isn't below this one. The table is searched by
-// user key and sequence, so what it finds may be the put of a sequence whose delete is sought,
-// which comes before that.
+// user key and sequence number. So what it finds may be the put of a sequence number whose delete
+// is sought, which comes before that.
 fn first_from<K: KeyOrder>(table: &MemTable<K>, key: &InternalKey<'_>) -> Option<Node>
     ensures from { IsFrom K.cmp (key_of key.now) (ordered K.cmp table.now.inserts) result }
     ensures place { IfSome result (IsPlace table.now.inserts) }

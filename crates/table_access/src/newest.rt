@@ -24,10 +24,10 @@ use std::alloc::Global;
 use store::Store;
 use table::Table;
 
-/// What the newest entry of a user key up to a sequence, below `SEQUENCE_END`, put in this table of
-/// an edit: nothing where the table has no such entry, and `Some(None)` where it is a delete. The
-/// table's filter is asked before a data block is read. Corrupt, where the source hasn't this
-/// table; Unsupported as `Table::open`, and where a block has more than 2^30 bytes.
+/// Returns what the newest entry of a user key up to a sequence number, below `SEQUENCE_END`, put
+/// in this table of an edit. None: the table has no such entry. `Some(None)`: it is a delete. The
+/// table's filter is asked before a data block is read. Corrupt: the source hasn't this table.
+/// Unsupported: as `Table::open`, and if a block has more than 2^30 bytes.
 pub fn table_value<K: KeyOrder, S: Store>(
     alloc: Global,
     source: &mut Tables<K, S>,
@@ -72,8 +72,8 @@ pub fn table_value<K: KeyOrder, S: Store>(
     }
 }
 
-// Whether no block from this one on has an entry of the user key: its filter says so of the block,
-// and its bound, which the key isn't above, of those behind.
+// Whether no block from this one on has an entry of the user key. The filter denies the key for the
+// block. The key isn't above the block's bound, so the later blocks can't have it.
 fn is_denied<K: KeyOrder>(table: &Table<K>, start: usize, key: &[u8]) -> bool
     ensures { MatchBool result (DeniesKey table.now.frame start key.now) (DeniesKey table.now.frame start key.now → ⊥) }
 {

@@ -17,9 +17,9 @@ use std::rc::Rc;
 use store::Store;
 use table::Table;
 
-/// A cursor over the table of a version edit, which it keeps for the keys at its ends. It holds the
-/// table open for its index, and has one data block at a time, which it shares with the cache. A
-/// move beyond the block reads the next one beside it, and changes nothing where that is refused.
+/// Holds a cursor over the table of a version edit, which it keeps for the keys at its ends. It
+/// holds the table open for its index, and has one data block at a time, which it shares with the
+/// cache. A move beyond the block reads the next one beside it, and changes nothing if that fails.
 #[derive(Drop)]
 pub struct TableCursor<K: KeyOrder> {
     placed: PlacedTable,
@@ -47,7 +47,7 @@ impl<K: KeyOrder> TableCursor<K> {
     ghost use Rattle.table.specs.Reading.{IsStill};
     ghost use Rattle.table.specs.Refusals.{IsFrameDamaged, IsFrameUnsupported};
 
-    /// A cursor over this table of an edit, which is opened. It stands nowhere. Corrupt and
+    /// Opens this table of an edit, and makes a cursor over it. It stands nowhere. Corrupt and
     /// Unsupported as `Table::open`.
     pub fn open<S: Store>(
         alloc: Global,
@@ -77,7 +77,7 @@ impl<K: KeyOrder> TableCursor<K> {
         })
     }
 
-    /// Stands on the first entry, or nowhere where there is none.
+    /// Moves to the first entry, or nowhere if there is none.
     pub fn to_first<S: Store>(
         &mut self,
         alloc: Global,
@@ -100,7 +100,7 @@ impl<K: KeyOrder> TableCursor<K> {
         Ok(())
     }
 
-    /// Stands on the last entry, or nowhere where there is none.
+    /// Moves to the last entry, or nowhere if there is none.
     pub fn to_last<S: Store>(
         &mut self,
         alloc: Global,
@@ -124,8 +124,8 @@ impl<K: KeyOrder> TableCursor<K> {
         Ok(())
     }
 
-    /// Stands on the first entry whose internal key isn't below the target, an internal key, or
-    /// nowhere where there is none.
+    /// Moves to the first entry whose internal key isn't below the target, an internal key, or
+    /// nowhere if there is none.
     pub fn to_key<S: Store>(
         &mut self,
         alloc: Global,
@@ -152,8 +152,8 @@ impl<K: KeyOrder> TableCursor<K> {
         Ok(())
     }
 
-    /// Steps to the pair behind, where there is one; else it stays where it stands, and the answer
-    /// is false.
+    /// Steps to the next pair, if there is one; else it stays where it stands, and the answer is
+    /// false.
     pub fn step<S: Store>(
         &mut self,
         alloc: Global,
@@ -330,7 +330,7 @@ impl<K: KeyOrder, S: Store> Cursor<K, Tables<K, S>> for TableCursor<K> {
 }
 
 // One step on within the block. On its last pair nothing moves, and the answer is the index of the
-// block behind.
+// next block.
 fn step_on<K: KeyOrder>(
     here: &mut Option<InBlock<BlockCursor<Internal<K>>>>,
 ) -> Result<Option<usize>, AllocError>

@@ -26,7 +26,7 @@ use std::rc::Rc;
 use store::Store;
 use table::Table;
 
-/// What a search on looks for.
+/// Tells what a search on looks for.
 #[derive(Clone, Copy)]
 pub enum Aim<'a> {
     /// The first pair.
@@ -51,8 +51,8 @@ pub fn search_on<K: KeyOrder, S: Store>(
         → HasData K.cmp (seen_through S.facts source.old) placed.now table.now.frame groups → start ≤ length groups
         → (place : ℕ) × StopsAt (Passed K.cmp aim.entry) (joined groups) (pairs_before groups start) place
         × IsPlacedIn groups here (within_list (joined groups) place)) }
-    // Whatever the table holds beside: the blocks in front of the one that is found are passed, and
-    // it stands on its first pair that isn't.
+    // Whatever the table holds beside: the blocks before the one that is found are passed, and it
+    // stands on its first pair that isn't.
     ensures came { IfOk result (λ here. SaysOf K.cmp (seen_through S.facts source.old) (seen_through S.facts source.new) placed.now.table.number
         (λ file. IsFrame K.cmp file table.now.frame → CameHere K.cmp (Passed K.cmp aim.entry) placed.now file table.now.frame start here)) }
     ensures stands { IfOk result (λ here. IfSome here (λ found. IsSome found.cursor.place)) }
@@ -75,7 +75,7 @@ pub fn search_on<K: KeyOrder, S: Store>(
     Ok(None)
 }
 
-/// Looks for the last pair of the blocks in front of one. Corrupt and Unsupported as `search_on`.
+/// Looks for the last pair of the blocks before one. Corrupt and Unsupported as `search_on`.
 pub fn search_back<K: KeyOrder, S: Store>(
     alloc: Global,
     source: &mut Tables<K, S>,
@@ -128,9 +128,9 @@ fn enter<K: KeyOrder>(
     }
 }
 
-// The data block of this index, held against its place when it comes from the store, and against
-// the edit where it is the first or the last. Such a one is looked at each time: what is kept of a
-// table doesn't know its edit.
+// The data block of this index. It is checked against its place when it comes from the store. The
+// first and the last one are checked against the edit each time: what is kept of a table doesn't
+// know its edit.
 fn read_index<K: KeyOrder, S: Store>(
     alloc: Global,
     source: &mut Tables<K, S>,

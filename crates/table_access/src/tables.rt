@@ -16,7 +16,7 @@ use table::Table;
 // (db/db_impl.cc, `TableCacheSize`).
 const OPEN_TABLES: usize = 990;
 
-/// A store, with the tables that stay open and the blocks that were read.
+/// Holds a store, with the tables that stay open and the blocks that were read.
 #[derive(Drop)]
 pub struct Tables<K: KeyOrder, S> {
     pub store: S,
@@ -34,7 +34,7 @@ impl<K: KeyOrder, S: Store> Tables<K, S> {
     ghost use Rattle.table.specs.Reading.{HasFile};
     ghost use Rattle.table.specs.Refusals.{IsFrameDamaged, IsFrameUnsupported};
 
-    /// This store, of which nothing is kept: no table stays open and no block in memory, until
+    /// Wraps this store, and keeps nothing of it: no table stays open and no block in memory, until
     /// `begin`.
     pub fn over(store: S) -> Self
         ensures store { result.store ≡ store }
@@ -68,7 +68,7 @@ impl<K: KeyOrder, S: Store> Tables<K, S> {
         Ok(())
     }
 
-    /// Keeps nothing any more: what was kept is let go, and nothing is kept until `begin`.
+    /// Releases what was kept, and keeps nothing until `begin`.
     pub fn end(&mut self)
         ensures store { self.new.store ≡ self.old.store }
         ensures tables { self.new.tables.tables ≡ [] }
@@ -79,7 +79,7 @@ impl<K: KeyOrder, S: Store> Tables<K, S> {
         self.blocks = BlockCache::none();
     }
 
-    /// The open table of this number, as `TableCache::get_table`.
+    /// Returns the open table of this number, as `TableCache::get_table`.
     pub fn get_table(&mut self, alloc: Global, number: u64) -> Result<Rc<Table<K>>, DbError>
         requires { 0 < number }
         ensures carries { Carries K.cmp (Only number) (seen_through S.facts self.old) (seen_through S.facts self.new) }
@@ -97,7 +97,7 @@ impl<K: KeyOrder, S: Store> Tables<K, S> {
         self.tables.get_table(alloc, &mut self.store, number)
     }
 
-    /// The data block of an index of the table of this number, as `get_table` and
+    /// Returns the data block of an index of the table of this number, as `get_table` and
     /// `BlockCache::read_block`.
     pub fn read_block(
         &mut self,

@@ -18,11 +18,10 @@ use store::Store;
 use table_access::{Tables, table_value, told_for_all};
 use versions::Version;
 
-/// What the newest entry of a user key up to a sequence, below `SEQUENCE_END`, put in the tables of
-/// a version: nothing where they have no such entry, and `Some(None)` where it is a delete. Level 0
-/// is searched from the newest table down, then each deeper level, and the first table that has
-/// such an entry ends the search. Corrupt, where the source hasn't these tables; Unsupported as
-/// `table_value`.
+/// Returns what the newest entry of a user key up to a sequence number, below `SEQUENCE_END`, put
+/// in the tables of a version. None: they have no such entry. `Some(None)`: it is a delete. Level 0
+/// is searched from the newest table down, then each deeper level; the first table that has such an
+/// entry ends the search. Corrupt: the source hasn't these tables. Unsupported: as `table_value`.
 pub fn value_in_tables<K: KeyOrder, S: Store>(
     alloc: Global,
     source: &mut Tables<K, S>,
@@ -39,8 +38,8 @@ pub fn value_in_tables<K: KeyOrder, S: Store>(
         version.now.tables key.now sequence value) }
     ensures found { IfOk result (λ value. SaysOfAll (order_of K.name K.cmp) (seen_through S.facts source.old) (seen_through S.facts source.new)
         version.now.tables key.now sequence value) }
-    // Whatever their files hold beside: the first of the tables that tells anything of the key, in
-    // the order of the search, tells this.
+    // Whatever their files hold beside: the first of the tables, in the order of the search, that
+    // tells anything of the key tells this.
     ensures told { IfOk result (λ value. TablesTell K.cmp (seen_through S.facts source.old) (seen_through S.facts source.new)
         version.now.tables key.now sequence value) }
     // Corrupt only over a table that the search comes to, and in it over its frame or over a block

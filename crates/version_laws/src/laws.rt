@@ -22,7 +22,7 @@ pub fn passed_place()
     ensures { PassedLaw }
 {}
 
-/// Proves that a search goes on behind a table in which the key isn't seen.
+/// Proves that a search goes on after a table in which the key isn't seen.
 pub fn goes_on()
     ensures { StepLaw }
 {}
