@@ -15,9 +15,9 @@ use std::rc::Rc;
 use store::Store;
 use table::Table;
 
-/// Tables that stay open, up to a number of them, by their number (LevelDB's db/table_cache.cc).
-/// Where there are too many, the least recently used goes. Contracts see the tables that are kept,
-/// the most recently used first, and how many there may be.
+/// Holds tables that stay open, up to a number of them, by their number (LevelDB's
+/// db/table_cache.cc). If there are too many, the least recently used goes. Contracts see the
+/// tables that are kept, the most recently used first, and how many there may be.
 #[derive(Drop)]
 pub struct TableCache<K: KeyOrder> {
     // None where nothing is ever kept.
@@ -41,7 +41,7 @@ impl<K: KeyOrder> TableCache<K> {
     ghost use Rattle.table.specs.Reading.{Reads};
     ghost use Rattle.table.specs.Refusals.{IsFrameDamaged, IsFrameUnsupported};
 
-    /// A cache that keeps nothing, and takes no memory: what a database that isn't open has.
+    /// Makes a cache that keeps nothing, and takes no memory: what a database that isn't open has.
     pub fn none() -> Self
         ensures empty { result.tables ≡ [] }
         ensures capacity { result.capacity ≡ 0 }
@@ -49,7 +49,7 @@ impl<K: KeyOrder> TableCache<K> {
         TableCache { tables: None }
     }
 
-    /// A cache that keeps at most so many tables, and none yet.
+    /// Makes a cache that keeps at most so many tables, and none yet.
     pub fn new(alloc: Global, capacity: NonZeroUsize) -> Result<Self, AllocError>
         ensures empty { IfOk result (λ cache. cache.tables ≡ []) }
         ensures capacity { IfOk result (λ cache. cache.capacity ≡ non_zero_usize_get capacity) }
@@ -60,7 +60,7 @@ impl<K: KeyOrder> TableCache<K> {
         })
     }
 
-    /// How many tables are kept.
+    /// Returns how many tables are kept.
     pub fn len(&self) -> usize
         ensures length { result ≡ length self.now.tables }
         ensures fits { result ≤ self.now.capacity }
@@ -71,17 +71,17 @@ impl<K: KeyOrder> TableCache<K> {
         }
     }
 
-    /// Whether no table is kept.
+    /// Returns whether no table is kept.
     pub fn is_empty(&self) -> bool
         ensures { result ≡ (length self.now.tables == 0) }
     {
         self.len() == 0
     }
 
-    /// The open table of this number: the one that is kept or, where none is, one that is opened,
-    /// and kept from then on where there is memory to keep it. Its file is the one that ends in
-    /// `.ldb` or, where there is none, the one that ends in `.sst`; where neither is there it is
-    /// Corrupt. Corrupt and Unsupported else as `Table::open`.
+    /// Returns the open table of this number: the one that is kept, or else one that is opened now,
+    /// and kept if there is memory to keep it. Its file ends in `.ldb` or, if there is no such
+    /// file, in `.sst`. Corrupt: it has neither file. Corrupt and Unsupported also as
+    /// `Table::open`.
     pub fn get_table<S: Store>(
         &mut self,
         alloc: Global,
@@ -96,7 +96,7 @@ impl<K: KeyOrder> TableCache<K> {
             (λ table. HitsTable table (table_answer_of result) × (store.new ≡ store.old)) }
         // What is kept was kept before, or is what was answered. So a refusal isn't kept.
         ensures kept { (kept : KeptTable) → Contains self.new.tables kept → Contains self.old.tables kept ⊎ IsAnsweredTable kept number (table_answer_of result) }
-        // The table goes first, so that the last one is let go where there are too many.
+        // The table goes first, so that the last one is dropped if there are too many.
         ensures order { MatchOption (kept_table_at self.old.tables number)
             (IsTableAnswerPut number (table_answer_of result) self.old.capacity (tables_when_used number self.old.tables) self.new.tables)
             (λ _. self.new.tables ≡ tables_when_used number self.old.tables) }

@@ -21,11 +21,10 @@ use ikey::KeyOrder;
 use std::alloc::{AllocError, Global};
 use std::marker::PhantomData;
 
-/// Cursors that are merged into one: their lists' union, in order, where no two share an internal
-/// key. It looks at each child for the next entry, which serves the few that a database has.
-///
-/// Each child knows on which side of the merge's entry it stands, so that a turn moves it by one
-/// step, and looks for no key.
+/// Merges cursors into one: their lists' union, in order, if no two share an internal key. For the
+/// next entry it compares all children, which serves the few that a database has. Each child knows
+/// on which side of the merge's entry it stands, so that a turn moves it by one step, and looks for
+/// no key.
 #[derive(Drop)]
 pub struct Merge<K: KeyOrder, C> {
     children: Vec<Child<C>>,
@@ -40,7 +39,7 @@ impl<K: KeyOrder, C: Drop> Merge<K, C> {
     ghost use Rattle.std.specs.Prelude.{◌≡◌, None, map, IfOk};
     ghost use Rattle.std.specs.List.{AllByRecursion};
 
-    /// The union of these cursors. It stands nowhere.
+    /// Makes the union of these cursors. It stands nowhere.
     pub fn new(alloc: Global, cursors: Vec<C>) -> Result<Self, AllocError>
         ensures children { IfOk result (λ merge. map (λ child. child.cursor) merge.children.items ≡ cursors.items) }
         ensures nowhere { IfOk result (λ merge. merge.current ≡ None) }

@@ -20,7 +20,7 @@ const BLOCK: usize = 32_768;
 const PIECE: u64 = 1_048_576;
 
 /// Reads all bytes of a file that should be a log, or `None` if it isn't there. It is read by
-/// pieces, and the first block of each is judged before more is read: so a long file of rubbish
+/// pieces, and the first block of each is judged before more is read. So a long file of rubbish
 /// costs what comes before the rubbish and two pieces. The room grows by doubling, and to no more
 /// than the store says are there; a file of one piece isn't copied. Corrupt, as of this kind: a
 /// block that was judged is none of a log. `log_in` judges all of it.

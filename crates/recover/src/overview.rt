@@ -41,13 +41,11 @@ pub struct LogLength {
     pub length: u64,
 }
 
-/// Reads `CURRENT` and the MANIFEST that it names, and asks how long the logs in use are; `None`:
-/// there is no database. No table and no log is read, and none is asked for that isn't listed, so
-/// that damage in these isn't found.
-///
-/// Corrupt: the MANIFEST can't be read, as from `read_directory`, or there is a table or a log but
-/// no `CURRENT`. Unsupported: the MANIFEST names another order of keys (`Comparator`) or a table
-/// number of 2^62 or more (`TableNumber`).
+/// Reads `CURRENT` and the MANIFEST that it names, and asks how long the logs in use are. `None`:
+/// there is no database. It reads no table and no log, and asks for none that isn't listed, so that
+/// damage in these isn't found. Corrupt: the MANIFEST can't be read, as from `read_directory`, or
+/// there is a table or a log but no `CURRENT`. Unsupported: the MANIFEST names another order of
+/// keys (`Comparator`) or a table number of 2^62 or more (`TableNumber`).
 pub fn overview_of<K: KeyOrder, S: Store>(
     alloc: Global,
     store: &mut S,

@@ -12,7 +12,7 @@ use coding::DbError;
 use std::alloc::Global;
 use store::Store;
 
-/// A footer, and how many bytes stand before it.
+/// Holds a footer, and how many bytes stand before it.
 #[derive(Clone, Copy, Debug, PartialEq, Eq)]
 pub struct Ends {
     /// How many bytes stand before the footer.

@@ -24,7 +24,7 @@ use ikey::Plain;
 use std::alloc::Global;
 use store::Store;
 
-/// The name under which the metaindex has the filter block.
+/// Names the filter block in the metaindex.
 pub const FILTER_NAME: &str = "filter.leveldb.BuiltinBloomFilter2";
 
 // The handle of the filter block, if the metaindex names one. Other names count for nothing.

@@ -72,8 +72,9 @@ pub fn table_value<K: KeyOrder, S: Store>(
     }
 }
 
-// Whether no block from this one on has an entry of the user key. The filter denies the key for the
-// block. The key isn't above the block's bound, so the later blocks can't have it.
+// Whether no block from this one on has an entry of the user key. The filter denies the key for
+// this block. Its bound has another user key, a greater one, so the later blocks can't have the key
+// either.
 fn is_denied<K: KeyOrder>(table: &Table<K>, start: usize, key: &[u8]) -> bool
     ensures { MatchBool result (DeniesKey table.now.frame start key.now) (DeniesKey table.now.frame start key.now → ⊥) }
 {
