@@ -9,9 +9,9 @@ use crate::operation::Operation;
 use coding::{DbError, put_fixed32, put_fixed64, put_string};
 use std::alloc::{AllocError, Global};
 
-/// The bytes of the batch of these operations, the first of which has this sequence (LevelDB's
-/// `WriteBatch::rep_`, its db/write_batch.cc). Their room is taken once, before a byte is written.
-/// It fails only where memory does.
+/// Encodes the batch of these operations, the first of which has this sequence number (LevelDB's
+/// `WriteBatch::rep_`, its db/write_batch.cc). The room is taken once, before a byte is written. It
+/// fails only out of memory.
 pub fn encode_operations(
     alloc: Global,
     sequence: u64,
@@ -29,8 +29,8 @@ pub fn encode_operations(
     Ok(out)
 }
 
-/// The same in place of what `out` holds, whose room is used again. Where memory fails, some other
-/// bytes are left.
+/// Encodes the same into `out`, whose bytes are dropped and whose room is used again. Out of
+/// memory: some other bytes are left.
 pub fn encode_operations_into(
     out: &mut Vec<u8>,
     sequence: u64,
@@ -49,7 +49,7 @@ pub fn encode_operations_into(
     Ok(())
 }
 
-/// The bytes of a batch, in a vector with room for `capacity` bytes from the start.
+/// Encodes a batch in a vector with room for `capacity` bytes from the start.
 pub fn encoded(
     alloc: Global,
     capacity: usize,

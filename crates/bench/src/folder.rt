@@ -28,7 +28,7 @@ pub fn run(rt: &HostRuntime, name: &str, number: &str, path: &str) -> u8 {
     report(rt, name, number, outcome)
 }
 
-/// A number of operations, which is at least 1.
+/// Reads a number of operations, which is at least 1.
 pub fn counted(text: &str) -> Option<u64> {
     match text.parse::<u64>() {
         Ok(0) => None,
@@ -42,7 +42,7 @@ pub fn counted(text: &str) -> Option<u64> {
 // Here nothing waits, so that 8 is what makes both merge as many at once.
 const LEVEL0_FILES: u64 = 8;
 
-/// The sizes of LevelDB's db_bench, with a cache of 8 MB.
+/// Returns the sizes of LevelDB's db_bench, with a cache of 8 MB.
 pub fn options() -> Option<Options> {
     Options::new(4_194_304, 4096, 2_097_152, LEVEL0_FILES, 10_485_760, 2048)
 }

@@ -4,10 +4,8 @@
 //! bytes.
 //!
 //! `bench latency SHARE N DIR` writes N drawn keys and prints how long the slowest writes took, in
-//! nanoseconds, each with its share of work: none for 0, so many entries, or all that there is
-//! (`all`).
-//!
-//! With no argument it runs each workload over files in memory, a few entries each.
+//! nanoseconds. Each has its share of work: none for 0, so many entries, or all that there is
+//! (`all`). With no argument it runs each workload over files in memory, a few entries each.
 #![tactic(auto)]
 
 mod entries;
@@ -46,7 +44,7 @@ fn main(rt: HostRuntime) -> ExitCode {
     })
 }
 
-// The words behind the program's own name.
+// The words after the program's own name.
 fn arguments(rt: &(impl Env + AllocGlobal)) -> io::Result<Vec<String>> {
     let mut words = env::args(rt)?;
     words.next();

@@ -9,7 +9,8 @@ ghost use Rattle.block.specs.Block.{IsEntry};
 use coding::{get_varint32, put_varint32};
 use std::alloc::AllocError;
 
-/// An entry that is read. Its key is the first `shared` bytes of the key before it, and `rest`.
+/// Holds an entry that is read. Its key is the first `shared` bytes of the key before it, and
+/// `rest`.
 #[derive(Clone, Copy, Debug)]
 pub struct Entry<'a> {
     pub shared: usize,
@@ -17,8 +18,8 @@ pub struct Entry<'a> {
     pub value: &'a [u8],
 }
 
-/// The entry at the front, and the bytes behind it. There is none where the bytes end too soon, or
-/// a length isn't a number of at most 32 bits in its shortest form.
+/// Reads the entry at the front, and returns it with the bytes after it. None: the bytes end too
+/// soon, or a length isn't a number of at most 32 bits in its shortest form.
 pub fn entry_at(bytes: &[u8]) -> Option<(Entry<'_>, &[u8])>
     ensures found { IfSome result (λ found. (front : List ℕ) × IsEntry found.0.shared found.0.rest.now found.0.value.now front × (bytes.now ≡ front ++ found.1.now)) }
     ensures none { IfNone result ((shared : ℕ) (rest value front behind : List ℕ) → IsEntry shared rest value front → bytes.now ≡ front ++ behind → ⊥) }
@@ -38,7 +39,7 @@ pub fn entry_at(bytes: &[u8]) -> Option<(Entry<'_>, &[u8])>
     ))
 }
 
-// The number of at most 32 bits at the front, and the bytes behind it. Mostly it takes one byte.
+// The number of at most 32 bits at the front, and the bytes after it. Mostly it takes one byte.
 #[inline(always)]
 fn length_at(bytes: &[u8]) -> Option<(usize, &[u8])>
     ensures range { IfSome result (λ found. found.0 < 2 ^ 32) }
@@ -93,7 +94,7 @@ pub fn put_entry(
     Ok(())
 }
 
-/// How many bytes at the front of the two are the same.
+/// Returns how many bytes at the front of the two are the same.
 pub fn shared_length(a: &[u8], b: &[u8]) -> usize
     ensures value { result ≡ common_prefix_len nat_eq a.now b.now }
     ensures in_a { result ≤ length a.now }

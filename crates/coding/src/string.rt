@@ -22,9 +22,9 @@ pub fn put_string(out: &mut Vec<u8>, text: &[u8]) -> Result<(), AllocError>
     put
 }
 
-/// Reads the length-prefixed string at the front: its bytes without the length, and what stands
-/// behind them, both borrowed. `None` where the length is cut or not in its shortest encoding, or
-/// where fewer bytes follow it.
+/// Reads the length-prefixed string at the front: its bytes without the length, and what follows
+/// them, both borrowed. `None`: the length is cut or not in its shortest encoding, or fewer bytes
+/// follow it.
 pub fn get_string(bytes: &[u8]) -> Option<(&[u8], &[u8])>
     ensures found { IfSome result (λ found. (front : List ℕ) × IsString front found.0.now × (bytes.now ≡ front ++ found.1.now)) }
     ensures none { IfNone result ((front text rest : List ℕ) → IsString front text → bytes.now ≡ front ++ rest → ⊥) }

@@ -59,8 +59,8 @@ fn push_varint(out: &mut Vec<u8>, value: u64) -> Result<(), AllocError>
 }
 
 /// Reads the number of at most 32 bits at the front: its value, and how many bytes it takes. Bytes
-/// may follow it. `None` where the bytes end before it does, where it isn't in its shortest
-/// encoding (as `80 00`, which LevelDB reads as 0), or where it is 2^32 or more.
+/// may follow it. `None`: the bytes end before it does, it isn't in its shortest encoding (as `80
+/// 00`, which LevelDB reads as 0), or it is 2^32 or more.
 pub fn get_varint32(bytes: &[u8]) -> Option<(u32, usize)>
     ensures range { IfSome result (λ found. found.0 < 2 ^ 32) }
     ensures length { IfSome result (λ found. found.1 ≤ length bytes.now) }

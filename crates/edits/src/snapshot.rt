@@ -17,10 +17,10 @@ use crate::version_edit::Edit;
 use coding::Bytes;
 use std::alloc::{AllocError, Global};
 
-/// The edit that alone leaves the tables and compact pointers of a layout, under these numbers
-/// (LevelDB's db/version_set.cc, `VersionSet::WriteSnapshot`). Its fields are in our writer's
-/// order, and the previous log number is among them only where it isn't 0. It is refused only where
-/// memory runs out.
+/// Builds the edit that alone leaves the tables and compact pointers of a layout, under these
+/// numbers (LevelDB's db/version_set.cc, `VersionSet::WriteSnapshot`). Its fields are in our
+/// writer's order, and the previous log number is among them only if it isn't 0. It fails only out
+/// of memory.
 pub fn snapshot_edit(
     alloc: Global,
     comparator: &[u8],

@@ -11,13 +11,13 @@ use std::collections::{BTreeMap, BTreeSet};
 use std::marker::Model;
 
 // The tables so far, as the list that a layout has of them: by level and then by number. Whatever
-// the order in which a MANIFEST names them, a table goes in or out in a number of steps that is
-// logarithmic in how many there are.
+// the order in which a MANIFEST names them, adding or removing a table takes a number of steps that
+// is logarithmic in how many there are.
 #[derive(Drop)]
 pub(crate) struct TableSet {
     // each under its level and its number
     tables: BTreeMap<(u32, u64), PlacedTable>,
-    // theirs, since a number counts at whichever level
+    // the tables' numbers, since a number counts at whichever level
     numbers: BTreeSet<u64>,
 }
 
@@ -82,7 +82,7 @@ impl TableSet {
         ensures { IfOk result (λ tables. tables.items ≡ self) }
     {
         let TableSet { tables, numbers } = self;
-        // The list takes memory, which the numbers give back first.
+        // The list takes memory, so the numbers free theirs first.
         drop(numbers);
         tables.into_values().collect(alloc)
     }

@@ -10,9 +10,8 @@ use crate::version_edit::Edit;
 use coding::put_string;
 use std::alloc::{AllocError, Global};
 
-/// The bytes of an edit whose fields are in our writer's order, by tag, then by level, then by
-/// number (LevelDB's db/version_edit.cc, `VersionEdit::EncodeTo`). It is refused only where memory
-/// runs out.
+/// Encodes an edit whose fields are in our writer's order, by tag, then by level, then by number
+/// (LevelDB's db/version_edit.cc, `VersionEdit::EncodeTo`). It fails only out of memory.
 pub fn encode_edit(alloc: Global, edit: &Edit) -> Result<Vec<u8>, AllocError>
     requires proper { All IsProper edit.now }
     requires order { IsInOrder edit.now }

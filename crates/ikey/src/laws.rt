@@ -2,17 +2,18 @@
 
 ghost use Rattle.ikey.specs.Sources.{FrontLaw, BehindLaw, FoundLaw, MissedLaw, ByTwoLaw, GrownLaw, ReplacedLaw, SameViewLaw, SoughtLaw, AllBeforeLaw, RowLaw, RowAnswerLaw};
 
-/// Proves that the newest entry of a source that is newer than what lies behind is that of both.
+/// Proves that the newest entry of a source is that of both, if the source is newer than the other.
 pub fn newest_in_front()
     ensures { FrontLaw }
 {}
 
-/// Proves that a key that isn't seen in front has the value that it has behind.
+/// Proves that a key that isn't seen in the first source has the value that it has in the later
+/// one.
 pub fn unseen_in_front()
     ensures { BehindLaw }
 {}
 
-/// Proves that of sources each of which is newer than those behind it, the first that has an answer
+/// Proves that of sources each of which is newer than the later ones, the first that has an answer
 /// answers for all.
 pub fn first_found()
     ensures { FoundLaw }
@@ -48,12 +49,12 @@ pub fn sought_in_order()
     ensures { SoughtLaw }
 {}
 
-/// Proves that a search in a sorted source that ends behind all entries has seen none of the key.
+/// Proves that a search in a sorted source that ends after all entries has seen none of the key.
 pub fn all_come_before()
     ensures { AllBeforeLaw }
 {}
 
-/// Proves that sorted sources in a row are a sorted one.
+/// Proves that consecutive sorted sources are a sorted one.
 pub fn sorted_in_row()
     ensures { RowLaw }
 {}

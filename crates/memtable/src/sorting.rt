@@ -12,8 +12,8 @@ use ikey::{Entry, Front, KeyOrder};
 use std::alloc::{AllocError, Global};
 use std::cmp::Ordering;
 
-/// The numbers of the entries, counted from 1, in internal order. No two entries may have the same
-/// user key and sequence.
+/// Sorts the numbers of the entries, counted from 1, in internal order. No two entries may have the
+/// same user key and sequence number.
 pub fn sorted<K: KeyOrder>(alloc: Global, entries: &[Entry]) -> Result<Vec<u32>, AllocError>
     requires few { length entries.now < 2 ^ 32 }
     requires new { AllDiffer entries.now }

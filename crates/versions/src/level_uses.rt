@@ -9,7 +9,7 @@ use crate::searching::level_of;
 use edits::{LEVELS, PlacedTable};
 use std::alloc::{AllocError, Global};
 
-/// A level's tables, counted.
+/// Counts a level's tables.
 #[derive(Clone, Copy, Debug, PartialEq, Eq)]
 pub struct LevelUse {
     /// From 0 to 6.
@@ -22,8 +22,9 @@ pub struct LevelUse {
     pub is_due: bool,
 }
 
-/// What each level has of the tables of a layout, from level 0 to 6, and whether a compaction of it
-/// is due, where level 0 may have fewer than so many files, and level 1 so many bytes.
+/// Counts what each level, from 0 to 6, has of the tables of a layout, and tells whether a
+/// compaction of it is due. One is due if level 0 has so many files, or level 1 more than so many
+/// bytes, and so on by tens.
 pub fn uses_of_levels(
     alloc: Global,
     tables: &[PlacedTable],

@@ -71,8 +71,8 @@ fn next_deeper<'a, K: KeyOrder>(
     None
 }
 
-/// The first table, of those of a version, that is searched for this internal key at this place or
-/// behind it, and its place.
+/// Returns the first table, of those of a version, that is searched for this internal key at this
+/// place or a later one, and its place.
 pub fn next_searched<'a, K: KeyOrder>(
     tables: &'a [PlacedTable],
     key: &[u8],
@@ -89,8 +89,8 @@ pub fn next_searched<'a, K: KeyOrder>(
             return Some((place, placed));
         }
     }
-    // Behind the places of level 0 there is one for each deeper level. This many of those lie in
-    // front of `from`.
+    // After the places of level 0 there is one for each deeper level. This many of those lie before
+    // `from`.
     let above = from.saturating_sub(newest.len());
     if above >= LEVELS as usize - 1 {
         return None;
