@@ -10,11 +10,11 @@ use std::alloc::Global;
 use store::Store;
 
 // After how many writes a piece of work is done. LevelDB compacts on a thread of its own; here the
-// writer does it. Seldom and much is cheaper than often and little, by a tenth against half as much
-// each 1,000 writes: work lists the folder, and writes and merges evict each other's data from the
-// processor's caches. Six entries for each one written keep level 0 at its limit, since an entry is
-// merged a few times on its way down. (With much less, compactions take so long that the memtable,
-// which is only sealed between them, grows to several times its size.)
+// writer does it. Seldom and much is cheaper than often and little: a tenth less than with half as
+// much each 1,000 writes. For work lists the folder, and writes and merges evict each other's data
+// from the processor's caches. Six entries for each one written keep level 0 at its limit, since an
+// entry is merged a few times on its way down. With much less, a compaction takes long, and the
+// memtable, which is only sealed between two, grows to several times its size.
 const WRITES_A_PIECE: u64 = 2000;
 
 const PIECE: u32 = 12_000;

@@ -39,7 +39,7 @@ fn after<K: KeyOrder>(
     Ok(left)
 }
 
-// Two keys, one of them a front of the other, and one behind both in the order of bytes.
+// Two keys, one of them a front of the other, and one after both in the order of bytes.
 const SCRIPT: &str =
     "open new\nput 61 31\nput 6161 32\nput 62 33\ncompact all\niter\nfirst 1\nnext 1\nnext 1\nnext 1\nseek 1 6162\nseek 1 60\n";
 

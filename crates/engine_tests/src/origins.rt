@@ -46,7 +46,7 @@ const CASES: &[Case] = &[
     Case { origin: Origin::Log(3), table: WHOLE, log: &[b"no batch"], wanted: Err(DbError::Corrupt(FileKind::Log, Damage::Length)) },
 ];
 
-// The log 2 isn't live.
+// The log 2 isn't in use.
 fn read(alloc: Global, case: &Case) -> Result<Vec<Entry>, DbError> {
     let mut store = directory(alloc, EDIT, case.log)?;
     put(&mut store, "000002.log", &log_of(alloc, &[D2])?)?;
@@ -70,7 +70,7 @@ fn is(entry: &Entry, wanted: &(u64, Option<&[u8]>)) -> bool {
     }
 }
 
-/// Whether these are entries of the key `a` with these sequences, and these values or none.
+/// Returns whether these are entries of the key `a` with these sequences, and these values or none.
 pub fn are(entries: &[Entry], wanted: &[(u64, Option<&[u8]>)]) -> bool {
     if entries.len() != wanted.len() {
         return false;

@@ -43,7 +43,7 @@ fn is_low<S: Store>(db: &Db<S, Bytewise>) -> bool {
         .is_some_and(|count| count as u64 <= 3 * LEVEL0_FILES)
 }
 
-// The first of so many writes behind which work hasn't kept up.
+// The first of so many writes after which work hasn't kept up.
 fn first_late<S: Store>(
     alloc: Global,
     db: &mut Db<S, Bytewise>,

@@ -1,4 +1,4 @@
-//! Each call of the store fails in turn, once without being done and once behind it.
+//! Each call of the store fails in turn, once without being done and once after it was done.
 use crate::endings::{are_left, remains_of};
 use crate::lines::Line;
 use crate::model::Model;

@@ -32,7 +32,7 @@ pub type Map = [Option<u8>; KEYS];
 /// A key, and the value that it is given, or none where it is deleted.
 pub type Change = (usize, Option<u8>);
 
-/// A command.
+/// Names a command.
 #[derive(Clone, Copy)]
 pub enum Line {
     Open(Mode),
@@ -52,7 +52,7 @@ pub enum Line {
     Close,
 }
 
-/// What a command was answered.
+/// Tells what a command was answered.
 #[derive(Clone, Copy, PartialEq)]
 pub enum Seen {
     Done,
@@ -90,7 +90,7 @@ fn write_of(alloc: Global, changes: &[Change]) -> Result<Op, DbError> {
     Ok(Op::Write(operations, false))
 }
 
-/// The command, as a session takes it.
+/// Returns the command, as a session takes it.
 pub fn op_of(alloc: Global, line: Line) -> Result<Op, DbError> {
     Ok(match line {
         Line::Open(mode) => Op::Open(mode),
@@ -142,7 +142,7 @@ fn seen_value(value: &Bytes) -> Seen {
     }
 }
 
-/// The answer.
+/// Returns the answer.
 pub fn told_by(answer: &Answer) -> Seen {
     match answer {
         Answer::Done => Seen::Done,

@@ -12,7 +12,7 @@ use store::Store;
 /// A session over a store that may fail.
 pub type Faulty = Session<WatchedStore, Bytewise>;
 
-/// A session with options of these sizes.
+/// Makes a session with options of these sizes.
 pub fn session(alloc: Global, store: WatchedStore, sizes: Sizes) -> Result<Faulty, DbError> {
     match options_of(sizes) {
         Some(options) => Ok(Session::new(alloc, store, options)),
@@ -46,7 +46,7 @@ fn failures_of(session: &Faulty) -> (u64, u64) {
     (session.store().failures(), session.store().failed_writes())
 }
 
-/// Whether everything was synced in front of what names it, and the store counted each failed
+/// Returns whether everything was synced before what names it, and the store counted each failed
 /// write.
 pub fn is_ordered(session: &Faulty) -> bool {
     !session.store().is_early()
@@ -64,7 +64,7 @@ fn failed_since(session: &Faulty, before: (u64, u64)) -> Failed {
     }
 }
 
-/// How many calls the store has had.
+/// Returns how many calls the store has had.
 pub fn calls_of(session: &Faulty) -> u64 {
     session.store().calls()
 }

@@ -42,7 +42,7 @@ const SMALL: Sizes = Sizes {
     base_bytes: 400,
 };
 
-/// The options of these sizes.
+/// Returns the options of these sizes.
 pub fn options_of(sizes: Sizes) -> Option<Options> {
     Options::new(
         sizes.write_buffer,

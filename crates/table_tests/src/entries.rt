@@ -87,7 +87,7 @@ fn are_same(a: &[KeyValue], b: &[KeyValue]) -> bool {
     a.len() == b.len()
 }
 
-/// Whether these are the entries.
+/// Returns whether these are the entries.
 pub fn is_listed(alloc: Global, found: &[KeyValue], rows: &[Row]) -> Result<bool, DbError> {
     let wanted = entries_of(alloc, rows)?;
     Ok(are_same(found, &wanted))
@@ -101,7 +101,8 @@ fn is_found(found: &Option<KeyValue>, wanted: Option<&KeyValue>) -> bool {
     }
 }
 
-/// Whether a seek of the newest version of a key up to a sequence finds the entry of this place.
+/// Returns whether a seek of the newest version of a key up to a sequence finds the entry of this
+/// place.
 pub fn finds<K: KeyOrder, S: Store>(
     alloc: Global,
     table: &Table<K>,
@@ -130,7 +131,7 @@ fn finds_all<K: KeyOrder, S: Store>(
     Ok(true)
 }
 
-/// Whether the table has these entries, as they are listed and as they are checked.
+/// Returns whether the table has these entries, as they are listed and as they are checked.
 pub fn lists<K: KeyOrder, S: Store>(
     alloc: Global,
     table: &Table<K>,
@@ -143,7 +144,7 @@ pub fn lists<K: KeyOrder, S: Store>(
     )
 }
 
-/// Whether the table in the store has these entries, and each seek finds its own.
+/// Returns whether the table in the store has these entries, and each seek finds its own.
 pub fn reads_as<K: KeyOrder, S: Store>(
     alloc: Global,
     store: &mut S,

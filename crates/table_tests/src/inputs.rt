@@ -42,7 +42,7 @@ pub fn source_of(alloc: Global) -> Result<Sources<Bytewise, FaultStore>, DbError
     })
 }
 
-/// The version that has them.
+/// Returns the version that has them.
 pub fn version_over(alloc: Global) -> Result<Rc<Version<Bytewise>>, DbError> {
     Ok(Rc::new(alloc, version_of(alloc, &PLACES, None)?)?)
 }

@@ -90,7 +90,7 @@ pub fn layout_of(
     })
 }
 
-/// The version of these tables, which can stand in one.
+/// Returns the version of these tables, which can stand in one.
 pub fn version_of(
     alloc: Global,
     rows: &[TableRow],

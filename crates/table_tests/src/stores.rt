@@ -45,7 +45,7 @@ pub fn perform<S: Store>(alloc: Global, store: &mut S, step: Step<'_>) -> Result
     }
 }
 
-/// Whether the step is done, and is so.
+/// Returns whether the step is done, and is so.
 pub fn does<S: Store>(alloc: Global, store: &mut S, step: Step<'_>) -> bool {
     matches!(perform(alloc, store, step), Ok(true))
 }
@@ -130,7 +130,7 @@ fn names<S: Store>(alloc: Global, store: &mut S) -> Result<String, StoreError> {
     Ok(joined)
 }
 
-/// The first step that answers otherwise, by its place.
+/// Returns the first step that answers otherwise, by its place.
 pub fn first_wrong<S: Store>(alloc: Global, store: &mut S, rows: &[Row]) -> Option<usize> {
     for (place, (step, wanted)) in rows.iter().enumerate() {
         if perform(alloc, store, *step) != *wanted {

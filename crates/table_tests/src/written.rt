@@ -33,7 +33,7 @@ pub fn stored(alloc: Global, files: &[File], block_bytes: usize) -> Result<MemSt
     Ok(store)
 }
 
-/// The same, of which calls are counted from then on.
+/// Returns the same, of which calls are counted from then on.
 pub fn counted(alloc: Global, files: &[File], block_bytes: usize) -> Result<FaultStore, DbError> {
     Ok(FaultStore::new(stored(alloc, files, block_bytes)?, None))
 }
@@ -56,7 +56,7 @@ pub fn cached<S: Store + Drop>(
     Ok(source)
 }
 
-/// Whether what was found of a key is this: nothing, a delete or a put of these bytes.
+/// Returns whether what was found of a key is this: nothing, a delete or a put of these bytes.
 pub fn is_value(found: &Option<Option<Bytes>>, wanted: Option<Option<&[u8]>>) -> bool {
     match (found, wanted) {
         (None, None) => true,
@@ -79,7 +79,7 @@ pub fn opened<S: Store>(
     TableCursor::open(alloc, source, &placed)
 }
 
-/// What the newest entry of a user key up to a sequence put in such a table.
+/// Returns what the newest entry of a user key up to a sequence put in such a table.
 pub fn value_in<S: Store>(
     alloc: Global,
     source: &mut Tables<Bytewise, S>,

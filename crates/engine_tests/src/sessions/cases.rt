@@ -1,4 +1,4 @@
-// Sessions one behind the other over one store, and what each of them leaves.
+// Sessions one after the other over one store, and what each of them leaves.
 use super::*;
 use recover::{Report, TableSummary};
 

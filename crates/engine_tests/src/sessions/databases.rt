@@ -82,7 +82,7 @@ const FIRST_IDS: Ids = Ids {
     iterator: 5,
 };
 
-// Whether it answers, and the store and the ids that it gives back.
+// Whether it answers, and the store and the ids that it returns.
 fn served(alloc: Global) -> Result<(bool, MemStore, Ids), Fail> {
     let mut database = written(alloc, FIRST_IDS)?;
     let answers = answers(alloc, &mut database);
@@ -127,7 +127,7 @@ fn gives_no_id(alloc: Global, database: &mut Db<MemStore, Bytewise>) -> bool {
         && matches!(database.iter(alloc, Some(1)), Err(DbError::NoSnapshot))
 }
 
-// Whether a database of these ids does so, and the ids that it gives back.
+// Whether a database of these ids does so, and the ids that it returns.
 fn given_none(alloc: Global) -> Result<(bool, Ids), Fail> {
     let mut database = database(alloc, DEFAULTS, LAST_IDS)?;
     let gives_no_id = gives_no_id(alloc, &mut database);

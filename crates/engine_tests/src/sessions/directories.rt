@@ -51,7 +51,7 @@ const BESIDE_AN_EDIT: Files<'static> = &[
     ("000004.ldb", &[0; 176]),
 ];
 
-// Files; one more, or in place of one of these; and what is answered over them.
+// Files; one more, or one that replaces one of these; and what is answered over them.
 pub type Opening = (Files<'static>, (&'static str, &'static [u8]), Line<'static>);
 
 // Each MANIFEST that isn't the first one is one edit: Bytewise, and what is said of it.
@@ -72,7 +72,7 @@ pub const OPENINGS: &[Opening] = &[
     (BESIDE_AN_EDIT, ("MANIFEST-000001", b"\xb1\x98\xa4*;\x00\x01\x01\x1aleveldb.BytewiseComparator\x02\x03\x03\x05\x04\x01\x07\x00\x04\xb0\x01\x09a\x01\x01\x00\x00\x00\x00\x00\x00\x09a\x01\x01\x00\x00\x00\x00\x00\x00"), ("open", "ok")),
     // a table that is not there
     (BESIDE_AN_EDIT, ("MANIFEST-000001", b"\xb3l\x8da;\x00\x01\x01\x1aleveldb.BytewiseComparator\x02\x03\x03\x06\x04\x01\x07\x00\x05\xb0\x01\x09a\x01\x01\x00\x00\x00\x00\x00\x00\x09a\x01\x01\x00\x00\x00\x00\x00\x00"), ("open", "refused Corrupt(Table, Missing)")),
-    // a file in place of the first directory's own, or beside
+    // a file that replaces the first directory's own, or beside
     (FIRST, ("000002.log", b""), ("open", "ok")),
     (FIRST, ("CURRENT", b""), ("open", "refused Corrupt(Current, Length)")),
     (FIRST, ("CURRENT", b"MANIFEST-000001"), ("open", "refused Corrupt(Current, Length)")),
@@ -85,7 +85,7 @@ pub const OPENINGS: &[Opening] = &[
     (FIRST, ("000002.log", b"\xe9\x9f\x78\x19\x11\x00\x01\x01\x00\x00\x00\x00\x00\x00\x00\x01\x00\x00\x00\x01\x01a\x011\xe9\x9f\x78\x19\x11\x00\x01\x01\x00\x00\x00\x00\x00\x00\x00\x01\x00\x00\x00\x01\x01a\x011"), ("open", "refused Corrupt(Log, Order)")),
     // a record that is no batch
     (FIRST, ("000002.log", b"\xbb\x8f\xe9\x0e\x08\x00\x01no batch"), ("open", "refused Corrupt(Log, Length)")),
-    // of a number below the log number, so it is read no longer
+    // of a number below the log number: it isn't read any more
     (FIRST, ("000001.log", b"\x01"), ("open", "ok")),
     // the one file that there is
     (&[], ("000002.log", b""), ("open new", "refused Corrupt(Directory, Missing)")),

@@ -86,7 +86,7 @@ fn after_history(alloc: Global) -> Result<(u64, MemStore), Fail> {
 }
 
 // Level 0 is below its limit, a deeper one than 1 has tables, and no file is left beside the
-// tables, the live logs, `CURRENT`, `LOCK` and the MANIFEST.
+// tables, the logs in use, `CURRENT`, `LOCK` and the MANIFEST.
 fn are_tidy(files: usize, summary: &Summary) -> bool {
     let tables = &summary.tables;
     let high = count_of(tables, 1).saturating_add(count_of(tables, 0));

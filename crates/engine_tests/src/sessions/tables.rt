@@ -4,8 +4,9 @@ use super::*;
 use coding::{Damage, Feature, FileKind};
 use std::test::Fail;
 
-// LevelDB made this directory: it put a, b, c and e, compacted them into level 1, put b and d and
-// deleted c, put a again, and made a table of level 0 of each of the last two at its next opens.
+// LevelDB made this directory. It put a, b, c and e, and compacted them into level 1. It put b and
+// d and deleted c, and put a again. It made a table of level 0 of each of the last two at its next
+// opens.
 #[rattlefmt::skip]
 pub const LEVELS: &[(&str, &[u8])] = &[
     ("CURRENT", b"MANIFEST-000018\n"),
@@ -42,8 +43,7 @@ pub const READ: &[Line<'static>] = &[
     ("seek 1 6565", "end"),
 ];
 
-// What is written lies in front of the tables, for whoever reads later, now and after the next
-// open.
+// What is written comes before the tables, for whoever reads later, now and after the next open.
 const WRITTEN: &[Line<'static>] = &[
     ("open", "ok"),
     ("iter", "iter 1"),
