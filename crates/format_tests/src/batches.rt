@@ -144,9 +144,9 @@ fn long_values_have_long_lengths(rt: HostRuntime) -> Result<(), Fail> {
     Ok(())
 }
 
-// Where a byte of that put stands, what it becomes, and the damage that it makes: a sequence of
-// 2^56, a count of none, of two and of 2^24 + 1, a kind that isn't known, a delete, and lengths
-// past the end.
+// Where a byte of that put stands, what it becomes, and the damage that it makes. The cases: a
+// sequence number of 2^56; a count of none, of two and of 2^24 + 1; a kind that isn't known; a
+// delete; lengths past the end.
 const CHANGES: [(usize, u8, Damage); 9] = [
     (7, 1, Damage::Number),
     (8, 0, Damage::Length),
@@ -265,7 +265,7 @@ fn is_full(batch: &mut Batch) -> bool {
         && refusal(batch.ops()).is_none()
 }
 
-// Whether the operations are refused with one more, and a long key is refused behind one of them.
+// Whether the operations are refused with one more, and a long key is refused after one of them.
 fn are_refused(
     alloc: Global,
     operations: &mut Vec<Operation>,

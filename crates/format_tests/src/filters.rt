@@ -150,12 +150,12 @@ const DAMAGED: [&[u8]; 11] = [
     // another base
     b"\0\0\0\0\x0a",
     b"\0\0\0\0\x0c",
-    // an array that begins behind the block, or one byte too late
+    // an array that begins after the block, or one byte too late
     b"\x09\0\0\0\x0b",
     b"\x01\0\0\0\x0b",
     // two bytes of an array whose offsets have four each
     b"\0\0\0\0\0\0\x0b",
-    // an offset behind the array's own, and one behind the next
+    // an offset after the array's own, and one after the next
     b"\x01\0\0\0\0\0\0\0\x0b",
     b"\x05\0\0\0\0\0\0\0\x0b",
     b"\0\x01\0\0\0\0\0\0\0\x01\0\0\0\x0b",

@@ -168,8 +168,8 @@ fn fronts_are_of_sixteen_bytes(rt: HostRuntime) {
     }
 }
 
-// A key, how much of it the next one shares, the next one's rest, and what a quick look says where
-// both are plain byte strings and where they are internal keys.
+// A key, how much of it the next one shares, and the next one's rest. Then what a quick comparison
+// says of both as plain byte strings and as internal keys.
 const LOOKS: [(&[u8], usize, &[u8], bool, bool); 6] = [
     (
         b"ab\x01\x07\0\0\0\0\0\0",

@@ -92,8 +92,8 @@ fn a_batch_is_one_fragment(rt: HostRuntime) {
     }
 }
 
-// Where the example's log is cut, the whole records before, and the tail: whole, behind the zeros
-// at the block's end, within them, and before them.
+// Where the example's log is cut, the whole records before, and the tail: whole, after the zeros at
+// the block's end, within them, and before them.
 const CUTS: [(usize, usize, Tail); 4] = [
     (106_311, 3, Tail::Clean),
     (98_304, 2, Tail::Clean),
@@ -128,7 +128,8 @@ fn at_seven_bytes_left_a_record_begins_with_an_empty_fragment(rt: HostRuntime) -
 }
 
 // Where the log ends, the record's length, how much it adds, and where the header of its first
-// fragment is among that: with room, at seven bytes left, at six bytes left, at one, and at none.
+// fragment is among that. The cases: with room, at seven bytes left, at six bytes left, at one, and
+// at none.
 const ADDED: [(u64, usize, usize, usize); 12] = [
     (0, 0, 7, 0),
     (32_761, 0, 7, 0),
@@ -184,7 +185,7 @@ fn reads_before(alloc: Global, log: &[u8]) -> bool {
     reads(alloc, log, LENGTHS, count, tail)
 }
 
-// Up to nine bytes before and behind.
+// Up to nine bytes before and after.
 #[test]
 fn a_cut_log_has_the_records_before_the_cut(rt: HostRuntime) -> Result<(), Fail> {
     let log = log_of(rt.alloc(), LENGTHS)?;
@@ -244,7 +245,7 @@ const TORN: [&[u8]; 4] = [
     EMPTY_FIRST,
 ];
 
-// A checksum of zeros, a length past the block, two beginnings, a whole record behind one, and that
+// A checksum of zeros, a length past the block, two beginnings, a whole record after one, and that
 // record with another last byte.
 const DAMAGED: [(&[u8], Damage); 5] = [
     (b"\0\0\0\0\0\0\0", Damage::Checksum),

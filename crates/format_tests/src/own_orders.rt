@@ -1,5 +1,4 @@
-// An order of one's own: numbers as keys, by their value. `docs/ORDERS.md` explains it line by
-// line.
+// A custom order: numbers as keys, by their value. `docs/ORDERS.md` explains it line by line.
 
 ghost use Rattle.std.specs.Prelude.{codes, length};
 ghost use Rattle.std.proofs.Common.{lit<};

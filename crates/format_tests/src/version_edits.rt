@@ -226,7 +226,7 @@ const MALFORMED: [&[u8]; 25] = [
     &[
         7, 0, 4, 1, 8, 1, 1, 0, 0, 0, 0, 0, 0, 9, 1, 1, 0, 0, 0, 0, 0, 0,
     ],
-    // keys that are no internal keys: of no byte, of seven, and of a kind that there is none of
+    // keys that are no internal keys: of no byte, of seven, and of an unknown kind
     &[5, 0, 0],
     &[5, 0, 7, 1, 1, 0, 0, 0, 0, 0],
     &[5, 0, 8, 2, 1, 0, 0, 0, 0, 0, 0],
@@ -246,7 +246,7 @@ const MALFORMED: [&[u8]; 25] = [
     ],
     // a number of 2^64
     &[3, 0x80, 0x80, 0x80, 0x80, 0x80, 0x80, 0x80, 0x80, 0x80, 2],
-    // a number past the reading limit in front of a field that is cut
+    // a number past the reading limit before a field that is cut
     &[
         6, 0, 0x80, 0x80, 0x80, 0x80, 0x80, 0x80, 0x80, 0x80, 0x40, 2,
     ],
@@ -300,7 +300,7 @@ const TWO: &[u8] = &[
     0, 0, 0, 8, 1, 1, 0, 0, 0, 0, 0, 0,
 ];
 
-// The new file stands in front of the deleted one.
+// The new file stands before the deleted one.
 const MOVED: &[u8] = &[
     7, 2, 5, 1, 8, 1, 1, 0, 0, 0, 0, 0, 0, 8, 1, 1, 0, 0, 0, 0, 0, 0, 6, 1, 5,
 ];

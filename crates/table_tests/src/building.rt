@@ -94,9 +94,9 @@ fn the_old_file_is_emptied_and_others_stay(rt: HostRuntime) -> Result<(), Fail> 
 
 // ---- sizes
 
-// The first entry of a block has 13 bytes here, and so has each other one; behind them stand 8. An
-// ended block has five more. So large are three entries, one after another, where blocks are ended
-// by so many bytes.
+// The first entry of a block has 13 bytes here, and so has each other one; 8 follow them. An ended
+// block has five more. So large are three entries, one after another, if blocks are ended by so
+// many bytes.
 const SIZES: [(usize, [u64; 3]); 6] = [
     (1, [26, 52, 78]),
     (21, [26, 52, 78]),
@@ -214,7 +214,7 @@ fn finds_each(
 }
 
 // None of the keys is this number or above. The keys that are asked for differ from them in more
-// than the last byte: in a filter of 64 bits two keys of four bytes that differ in that one alone
+// than the last byte. In a filter of 64 bits two keys of four bytes that differ in that one alone
 // have the same bits.
 const ELSEWHERE: u32 = 1 << 24;
 
@@ -296,8 +296,8 @@ fn is_table(alloc: Global, case: &Case) -> Result<bool, DbError> {
     is_read(alloc, &mut store, &entries, case)
 }
 
-// The first of 16 entries has 18 bytes, each other one 15 or 16, a restart 4, and what counts the
-// restarts 4: so 6 entries are the first with 100 bytes, and 265 with 4096.
+// The first of 16 entries has 18 bytes, each other one 15 or 16, a restart point 4, and their count
+// 4. So 6 entries are the first with 100 bytes, and 265 with 4096.
 const TABLES: [Case; 12] = [
     (1, 1, 1, 1),
     (1, 1, 2, 2),
@@ -449,7 +449,7 @@ fn a_table_is_in_the_order_of_its_keys(rt: HostRuntime) {
 
 // ---- failures
 
-// Writes the table of three odd numbers, a block each: 31 bytes a block, and the rest behind them.
+// Writes the table of three odd numbers, a block each: 31 bytes a block, and the rest after them.
 fn write_three<S: Store>(alloc: Global, store: &mut S) -> Result<u64, DbError> {
     let entries = odd_entries(alloc, 3)?;
     write::<Bytewise, S>(alloc, store, NAME, 1, &entries)

@@ -53,7 +53,7 @@ fn first_value(alloc: Global, block: Rc<Block<Internal<Bytewise>>>) -> Option<u8
 }
 
 // A block that is asked for: its table's number, its place, the value of its first entry, or none
-// where it is refused; whether the store is asked for it, and how many blocks are kept behind that.
+// if it fails. Then whether the store is asked for it, and how many blocks are kept after that.
 struct Fetch {
     number: u64,
     index: usize,
@@ -194,8 +194,8 @@ fn a_kept_block_is_not_read_again(rt: HostRuntime) {
 
 // ---- tables
 
-// A table that is asked for, by its number; how many blocks it has, or none where it is missing;
-// whether the store is asked for it; and whether it is evicted then.
+// A table that is asked for, by its number; how many blocks it has, or none if it is missing;
+// whether the store is asked for it; whether it is evicted then.
 type Opening = (u64, Option<usize>, bool, bool);
 
 // In a cache of one table.
@@ -270,8 +270,7 @@ enum Turn {
     Read,
 }
 
-// Each turn; whether the store is asked, and how many tables and how many blocks are kept behind
-// it.
+// Each turn; whether the store is asked, and how many tables and how many blocks are kept after it.
 #[rattlefmt::skip]
 const TURNS: [(Turn, bool, usize); 10] = [
     (Turn::Read, true, 0), (Turn::Read, true, 0),

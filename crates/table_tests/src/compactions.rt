@@ -254,8 +254,8 @@ fn plan(alloc: Global) -> Result<JobPlan, AllocError> {
 
 type TestJob = Job<Bytewise, Inputs>;
 
-// How many entries are left behind a step, where it says how much it merged, and whether that was
-// the end.
+// How many entries are left after a step, if it says how much it merged, and whether that was the
+// end.
 fn left_behind<S: Store + Drop>(
     alloc: Global,
     job: &mut TestJob,
@@ -448,7 +448,7 @@ fn refusals_say_why(rt: HostRuntime) {
     }
 }
 
-// A store with an input's file, whose call of this number fails, an append behind three bytes.
+// A store with an input's file, whose call of this number fails, an append after three bytes.
 fn failing(alloc: Global, call: u64) -> Result<FaultStore, StoreError> {
     let mut files = MemStore::new(alloc);
     files.create("000004.ldb")?;

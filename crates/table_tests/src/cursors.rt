@@ -187,7 +187,7 @@ fn walks_to(
     Ok(shows(visible, store, shown))
 }
 
-// The first turn of a walk over the merge behind which something else is shown.
+// The first turn of an iteration over the merge after which something else is shown.
 fn shown_elsewhere(alloc: Global) -> Result<Option<usize>, DbError> {
     let mut store = MemStore::new(alloc);
     let mut visible = Visible::new(alloc, merge_of(alloc)?, 8);

@@ -1,5 +1,6 @@
-// Drawn moves over merges of drawn lists, and over what of them is visible at a sequence, beside a
-// sorted list and a place in it; and how many moves of the lists' cursors those of a merge take.
+// Drawn moves over merges of drawn lists, and over what of them is visible at a sequence number,
+// beside a sorted list and a place in it. Also how many moves of the lists' cursors those of a
+// merge take.
 ghost use Rattle.std.specs.Prelude.{◌≡◌, true, OnOk};
 ghost use Rattle.cursor.specs.Walks.{value_at_hand};
 
@@ -316,7 +317,7 @@ fn is_at<C: Cursor<Bytewise, Source>>(
     )
 }
 
-// Whether all cursors stand ahead of the merge's entry behind this turn, and not behind it.
+// Whether all cursors stand ahead of the merge's entry after this turn, and not behind it.
 fn leads_ahead(turn: Turn) -> bool {
     match turn {
         Turn::First => true,

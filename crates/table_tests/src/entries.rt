@@ -9,11 +9,11 @@ use table::{KeyValue, Table, TableBuilder};
 /// An entry: a user key, a sequence number, a kind and a value.
 pub type Row = (&'static [u8], u64, Kind, &'static [u8]);
 
-/// A user key and a sequence, and how many entries stand before the newest of the key up to the
-/// sequence.
+/// Holds a user key and a sequence number, and how many entries come before the newest of the key
+/// up to the sequence number.
 pub type Seek = (&'static [u8], u64, usize);
 
-/// An internal key. A sequence past the largest is the test's fault, and no line.
+/// Makes an internal key. A sequence number past the largest is the test's fault, and no line.
 pub fn key(alloc: Global, user: &[u8], sequence: u64, kind: Kind) -> Result<Bytes, DbError> {
     if sequence >= SEQUENCE_END {
         return Err(DbError::BadLine);
@@ -21,7 +21,7 @@ pub fn key(alloc: Global, user: &[u8], sequence: u64, kind: Kind) -> Result<Byte
     Ok(Bytes::from_vec(pack(alloc, user, sequence, kind)?))
 }
 
-/// An entry with its internal key.
+/// Makes an entry with its internal key.
 pub fn entry(
     alloc: Global,
     user: &[u8],

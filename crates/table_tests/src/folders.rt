@@ -173,7 +173,7 @@ fn first_wrong_beside(
     Ok(first_wrong_turn(rt.alloc(), store, &mut other))
 }
 
-// Whether two stores take their turns, and the first one goes on behind them.
+// Whether two stores take their turns, and the first one goes on after them.
 fn take_turns(rt: &HostRuntime, folder: &str) -> Result<bool, StoreError> {
     let mut store = FileStore::open(rt, folder)?;
     let beside = first_wrong_beside(rt, folder, &mut store)?;
@@ -338,7 +338,7 @@ fn are_made(alloc: Global, store: &mut FileStore) -> bool {
     true
 }
 
-// Behind the name of each of some files.
+// After the name of each of some files.
 const APPENDED: &[Row] = &[
     (Step::Append("000000.ldb", b"+"), Ok(true)),
     (Step::Reads("000000.ldb", 10, 100, b"+"), Ok(true)),

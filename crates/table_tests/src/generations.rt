@@ -131,7 +131,7 @@ fn shows(
     Ok(!cursor.stands())
 }
 
-// The same from the first place, and from the one in front of the last.
+// The same from the first place, and from the one before the last.
 fn shows_from_its_ends(
     cursor: &mut MemoriesCursor<Bytewise>,
     alloc: Global,
@@ -313,7 +313,7 @@ const SCRIPTS: [&[Turn]; 4] = [
         Turn::Flushed, Turn::Seal, Turn::Flushed, Turn::Use(0), Turn::Walks(0, 2, &FIRST_PAIRS), Turn::Misses(1),
         Turn::Forget(0), Turn::Misses(0), Turn::Has(2),
     ],
-    // A seal is taken back, but not one behind which something is written.
+    // A seal is taken back, but not one after which something is written.
     &[
         Turn::Write(&FIRST), Turn::ReadsOn, Turn::Seal, Turn::Write(&SECOND), Turn::Unseal, Turn::Finds(&WHILE_SEALED),
     ],

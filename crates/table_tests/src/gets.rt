@@ -12,7 +12,7 @@ use versions::Version;
 
 const PUT: Kind = Kind::Put;
 
-// Two tables of level 0, of which the newer one stands behind the older, and one of each of two
+// Two tables of level 0, of which the newer one comes after the older, and one of each of two
 // deeper levels.
 #[rattlefmt::skip]
 const FILES: [File; 4] = [

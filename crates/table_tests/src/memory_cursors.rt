@@ -137,8 +137,8 @@ fn a_cursor_walks_as_the_list_of_what_is_seen(rt: HostRuntime) {
     kept_for_all_is_same::<Bytewise>();
 }
 
-// The first turn behind which a cursor up to sequence 8 has something else at hand than what is
-// listed above.
+// The first turn after which a cursor up to sequence number 8 has something else at hand than what
+// is listed above.
 fn elsewhere(alloc: Global) -> Result<Option<usize>, DbError> {
     let mut table = table_of(alloc)?;
     let mut cursor = MemoryCursor::new(alloc, 8);

@@ -12,9 +12,9 @@ use std::test::*;
 use store::{FaultStore, MemStore, Store, StoreError};
 use table_access::{TableCursor, Tables};
 
-// Tables without a filter, whose entries are puts at sequence 2: of `b` and `d` in one block,
-// bounded by its last key; the same and one of `f` and `h` behind it, which begins at 43. The first
-// key of a block stands at its byte 3, the second at 16, the checksum at 39.
+// Tables without a filter, whose entries are puts at sequence number 2. One has `b` and `d` in one
+// block, bounded by its last key. The other has also `f` and `h` in a second block, which begins at
+// 43. The first key of a block stands at its byte 3, the second at 16, the checksum at 39.
 const ONE_BLOCK: [u8; 131] = [
     0x00, 0x09, 0x01, 0x62, 0x01, 0x02, 0x00, 0x00, 0x00, 0x00, 0x00, 0x00, 0x01, 0x00, 0x09, 0x01,
     0x64, 0x01, 0x02, 0x00, 0x00, 0x00, 0x00, 0x00, 0x00, 0x02, 0x00, 0x00, 0x00, 0x00, 0x0D, 0x00,
@@ -127,9 +127,9 @@ const OF_ONE: TableRow = TableRow(1, 5, 131, b"b", 2, b"d", 2);
 
 const OF_TWO: TableRow = TableRow(1, 5, 192, b"b", 2, b"h", 2);
 
-// Keys above the bound of their block; keys that don't lie above the bound in front; what is no
-// internal key, in front, behind, and alone; at the end the tables as they were, and keys that lie
-// just inside: above no bound, and the next one above the bound in front.
+// Keys above the bound of their block, and keys that don't lie above the bound before. What is no
+// internal key: first, last, and alone. At the end the tables as they were, and keys that lie just
+// inside: above no bound, and the next one above the bound before.
 #[rattlefmt::skip]
 const CASES: [Case; 18] = [
     (&ONE_BLOCK, &[(16, b"d\x01\x01"), (39, b"\x20\x93\xe5H")], OF_ONE, NONE),
@@ -155,9 +155,9 @@ const CASES: [Case; 18] = [
     )),
 ];
 
-// End keys that their place in the index allows and the edit doesn't: the first key lower or
-// higher, as bytes and by its sequence, then the last one; and the same tables, over edits that say
-// these keys, where they differ from what the others say.
+// End keys that their place in the index allows and the edit doesn't. The first key is lower or
+// higher, as bytes and by its sequence number; then the last one is. Then the same tables, over
+// edits that say these keys, if they differ from what the others say.
 #[rattlefmt::skip]
 const ENDS: [Case; 14] = [
     (&ONE_BLOCK, &[(3, b"a"), (39, b"\xb6\x19\x07\xd6")], OF_ONE, NONE),

@@ -92,7 +92,7 @@ impl Store for Watched {
 }
 
 // More bytes than the 176 of the file, up to more than is read of any, and the footer's handles
-// that say so of the metaindex, which begins the file. Behind it stands that of the index.
+// that say so of the metaindex, which begins the file. After it comes that of the index.
 #[rattlefmt::skip]
 const SIZES: [(u64, &[u8; 40]); 5] = [
     (172, b"\0\xac\x01\x65\x16\0\0\0\0\0\0\0\0\0\0\0\0\0\0\0\0\0\0\0\0\0\0\0\0\0\0\0\0\0\0\0\0\0\0\0"),

@@ -29,7 +29,7 @@ const ENTRIES: [Row; 8] = [
 // The table 5 of these.
 const FIVE: TableRow = TableRow(1, 5, 1, b"a", 9, b"g", 5);
 
-// Both ways from end to end, and seeks on, between and behind the keys.
+// Both ways from end to end, and seeks on, between and after the keys.
 #[rattlefmt::skip]
 const TURNS: [Turn; 42] = [
     Turn::First, Turn::Next, Turn::Next, Turn::Next, Turn::Next, Turn::Next, Turn::Next, Turn::Next, Turn::Next,
@@ -145,7 +145,7 @@ fn are_refused(alloc: Global, store: MemStore, is_unsupported: bool) -> Result<b
     Ok(is_refusal(&walked, is_unsupported) && is_refusal(&found, is_unsupported))
 }
 
-// The same of the table of one entry with these bytes behind its data block.
+// The same of the table of one entry with these bytes after its data block.
 fn is_refused(alloc: Global, behind: &[u8; 5], is_unsupported: bool) -> bool {
     match changed(alloc, 21, 26, behind) {
         Ok(store) => are_refused(alloc, store, is_unsupported) == Ok(true),

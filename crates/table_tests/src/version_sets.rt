@@ -255,7 +255,7 @@ const CASES: [Case; 16] = [
         None,
         &[Look::Picks(2, 1, Some((&[8, 9, 2, 3, 4], 1, None)))],
     ),
-    // Compactions begin behind the pointer.
+    // Compactions begin after the pointer.
     (&LEVEL_2, None, &[Look::Picks(4, 23, Some((&[11], 3, Some(b"b")))), Look::Picks(2, 24, None)]),
     (&LEVEL_2, Some((2, b"a", 1)), &[Look::Picks(4, 23, Some((&[11], 3, Some(b"b"))))]),
     (
@@ -360,7 +360,7 @@ fn compaction(alloc: Global) -> Result<Edit, AllocError> {
     Ok(edit)
 }
 
-// The version behind it, where the edit fits.
+// The version after it, if the edit fits.
 fn compacted(alloc: Global, version: &Version<Bytewise>) -> Result<Version<Bytewise>, DbError> {
     let edit = compaction(alloc)?;
     match version.after(alloc, edit.fields()) {

@@ -1,4 +1,4 @@
-//! Turns of cursors, and what is at hand behind them.
+//! Turns of cursors, and what is at hand after them.
 
 use coding::DbError;
 use cursor::{Cursor, ListCursor};
@@ -7,7 +7,7 @@ use std::alloc::Global;
 use store::MemStore;
 use table::KeyValue;
 
-/// A move of a cursor. One on from a place, or back, is none where there is no place.
+/// Names a move of a cursor. One on from a place, or back, is none if there is no place.
 #[derive(Clone, Copy)]
 pub enum Turn {
     First,

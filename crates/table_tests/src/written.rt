@@ -24,7 +24,7 @@ fn put_file(
     write::<Bytewise, MemStore>(alloc, store, file.0, block_bytes, &entries)
 }
 
-/// A store with these tables.
+/// Makes a store with these tables.
 pub fn stored(alloc: Global, files: &[File], block_bytes: usize) -> Result<MemStore, DbError> {
     let mut store = MemStore::new(alloc);
     for file in files {
@@ -38,8 +38,8 @@ pub fn counted(alloc: Global, files: &[File], block_bytes: usize) -> Result<Faul
     Ok(FaultStore::new(stored(alloc, files, block_bytes)?, None))
 }
 
-/// A store that is read through caches of so many tables and so many blocks, which is more than
-/// none.
+/// Makes a store that is read through caches of so many tables and so many blocks, which is more
+/// than none.
 pub fn cached<S: Store + Drop>(
     alloc: Global,
     store: S,
@@ -66,7 +66,7 @@ pub fn is_value(found: &Option<Option<Bytes>>, wanted: Option<Option<&[u8]>>) ->
     }
 }
 
-/// A cursor over a table, whose number isn't 0.
+/// Opens a cursor over a table, whose number isn't 0.
 pub fn opened<S: Store>(
     alloc: Global,
     source: &mut Tables<Bytewise, S>,
