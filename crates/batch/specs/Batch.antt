@@ -1,5 +1,5 @@
 -- A write batch, in the words of LevelDB's db/write_batch.cc:
---   WriteBatch::rep_ := sequence: fixed64, count: fixed32, data: record[count]
+--   WriteBatch::rep_ := sequence number: fixed64, count: fixed32, data: record[count]
 --   record := kTypeValue varstring varstring | kTypeDeletion varstring
 --   varstring := len: varint32, data: uint8[len]
 use Rattle.std.specs.Prelude.{◌≡◌, ◌<◌, ◌≤◌, ◌+◌, ◌^◌, ℕ, Bool, ◌||◌, nat_lt, nat_le, if◌then◌else◌, List, [], ◌∷◌, ◌++◌, length, Option, Some, None, All}
@@ -22,8 +22,8 @@ abbrev pub AreOperations : List ℕ → List Operation → Type 0
 AreOperations bytes [] = bytes ≡ []
 AreOperations bytes (operation ∷ operations) = (first rest : List ℕ) × IsOperation first operation × AreOperations rest operations × (bytes ≡ first ++ rest)
 
--- The bytes are the batch of these operations. Operation i has the sequence `sequence + i`, and all
--- are below 2 ^ 56.
+-- The bytes are the batch of these operations. Operation i has the sequence number `sequence + i`,
+-- and all are below 2 ^ 56.
 pub record IsBatch (bytes : List ℕ) (sequence : ℕ) (operations : List Operation) : Type 0 where
   pub sequence_fits : sequence < 2 ^ 56
   pub last_fits : sequence + length operations ≤ 2 ^ 56

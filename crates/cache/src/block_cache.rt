@@ -139,8 +139,8 @@ impl<K: KeyOrder> BlockCache<K> {
         index: usize,
     ) -> Result<Rc<Block<Internal<K>>>, DbError>
         ensures reads { Reads (S.facts store.old) (S.facts store.new) }
-        // Where each kept block is that of its table, so is the one that is answered, and so are
-        // those kept afterwards.
+        // If each kept block is that of its table, the one that is answered is too, and so is each
+        // that is kept afterwards.
         ensures found { (content : ℕ → Option (List ℕ)) → HoldsBlocks K.cmp content self.old.blocks → HasContent K.cmp content file (S.facts store.old) table.now
             → IsTrue (S.facts store.new).faithful → IfOk (answer_of result) (λ pairs. IsBlockOf K.cmp content file index pairs) }
         ensures holds { (content : ℕ → Option (List ℕ)) → HoldsBlocks K.cmp content self.old.blocks → HasContent K.cmp content file (S.facts store.old) table.now

@@ -101,8 +101,8 @@ impl<K: KeyOrder> TableCache<K> {
             (IsTableAnswerPut number (table_answer_of result) self.old.capacity (tables_when_used number self.old.tables) self.new.tables)
             (λ _. self.new.tables ≡ tables_when_used number self.old.tables) }
         ensures reads { Reads (S.facts store.old) (S.facts store.new) }
-        // Where each kept table is that of its number, so is the one that is answered, and so are
-        // those kept afterwards.
+        // If each kept table is that of its number, the one that is answered is too, and so is each
+        // that is kept afterwards.
         ensures found { (content : ℕ → Option (List ℕ)) → HoldsTables K.cmp content (S.facts store.old) self.old.tables → HasTableInUse content number (S.facts store.old)
             → IsTrue (S.facts store.new).faithful → IfOk (table_answer_of result) (λ table. IsOpenOf K.cmp content (S.facts store.new) number table) }
         ensures holds { (content : ℕ → Option (List ℕ)) → HoldsTables K.cmp content (S.facts store.old) self.old.tables → HasTableInUse content number (S.facts store.old)

@@ -11,7 +11,7 @@ use thiserror::Error;
 /// Tells which kind of file was found damaged (the names of LevelDB's `doc/impl.md`).
 #[derive(Clone, Copy, Debug, PartialEq, Eq)]
 pub enum FileKind {
-    /// `CURRENT`, which names the live manifest.
+    /// `CURRENT`, which names the current manifest.
     Current,
     /// A manifest: the log of version edits.
     Manifest,

@@ -54,7 +54,7 @@ pub record IsMerging (cmp : Cmp) (deep : List ℕ → Bool) (last : List ℕ) (c
   pub bound : (entry : Entry) → Among (map entry_of came) entry → (key : Key) × IsKey last key × IsUpTo cmp entry key
   pub sorted : (name : List ℕ) → AreSorted (order_of name cmp) (map entry_of came)
 
--- each entry of a user key has a sequence of its own: no two differ in their kind alone
+-- each entry of a user key has a sequence number of its own: no two differ in their kind alone
 abbrev pub HaveOwnSequences : List InternalEntry → Type 0
 HaveOwnSequences entries = (entry other : InternalEntry) → Among entries entry → Among entries other → entry.key.user ≡ other.key.user → entry.key.sequence ≡ other.key.sequence → entry.key.kind ≡ other.key.kind
 

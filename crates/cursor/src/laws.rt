@@ -1,4 +1,4 @@
-//! Laws of merged lists, and of what is visible at a sequence.
+//! Laws of merged lists, and of what is visible at a sequence number.
 
 ghost use Rattle.std.specs.Prelude.{◌≡◌, ◌↔◌, ℕ, List, Some, map, slice_get};
 ghost use Rattle.std.specs.FinMap.{get};

@@ -1,4 +1,4 @@
-//! Looking for the next pair that is visible at a sequence, either way.
+//! Looking for the next pair that is visible at a sequence number, either way.
 
 ghost use Rattle.std.specs.Prelude.{◌≡◌, ◌<◌, ℕ, Bool, true, List, IsTrue, IfOk, IfErr, OnOk, MatchResult, MatchBool};
 ghost use Rattle.std.specs.Option.{option_copied};
@@ -37,9 +37,9 @@ impl Found {
 }
 
 /// Goes on from the cursor's entry to the first that is visible: the newest of its user key up to
-/// the sequence, and a put. With `hides`, the user key in the buffer is passed over. The buffer has
-/// the user key that was found. More entries than 2^64, which no store holds, are too much for
-/// memory.
+/// the sequence number, and a put. With `hides`, the user key in the buffer is passed over. The
+/// buffer has the user key that was found. More entries than 2^64, which no store holds, are too
+/// much for memory.
 pub fn find_on<K: KeyOrder, S, C: Cursor<K, S>>(
     cursor: &mut C,
     alloc: Global,

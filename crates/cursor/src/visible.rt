@@ -1,4 +1,4 @@
-//! The pairs that are visible at a sequence (LevelDB's db/db_iter.cc).
+//! The pairs that are visible at a sequence number (LevelDB's db/db_iter.cc).
 
 ghost use Rattle.std.specs.Prelude.{◌<◌, ◌^◌};
 

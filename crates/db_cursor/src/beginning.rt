@@ -1,4 +1,4 @@
-//! The cursors over the memory tables and the tables of a version (LevelDB's db/version_set.cc,
+//! The cursors over the memtables and the tables of a version (LevelDB's db/version_set.cc,
 //! Version::AddIterators).
 
 ghost use Rattle.std.specs.Prelude.{◌≡◌, ◌<◌, ◌≤◌, ◌+◌, ◌^◌, ◌++◌, ◌∷◌, ℕ, [], Some, None, length, map, OnOk, IfOk};
@@ -22,8 +22,8 @@ use std::alloc::{AllocError, Global};
 use std::rc::Rc;
 use versions::Version;
 
-/// Adds a cursor over the current memory table, and one over the sealed one, where there is one, up
-/// to a sequence.
+/// Adds a cursor over the current memtable, and one over the sealed one, where there is one, up
+/// to a sequence number.
 pub fn add_memory<K: KeyOrder>(
     alloc: Global,
     cursors: &mut Vec<SourceCursor<K>>,
@@ -45,7 +45,7 @@ pub fn add_memory<K: KeyOrder>(
     Ok(())
 }
 
-// Adds a cursor over the memory table of a generation.
+// Adds a cursor over the memtable of a generation.
 fn add_table<K: KeyOrder>(
     alloc: Global,
     cursors: &mut Vec<SourceCursor<K>>,

@@ -6,7 +6,7 @@ ghost use Rattle.db_cursor.specs.internal.Scanning.{WritesAreKept};
 use ikey::KeyOrder;
 use memtables::changes_are_kept;
 
-/// Proves that what is written above a scan's sequence leaves what the scan reads.
+/// Proves that what is written above a scan's sequence number leaves what the scan reads.
 pub fn writes_are_kept<K: KeyOrder>()
     ensures { WritesAreKept K.cmp }
 {

@@ -19,7 +19,7 @@ pub struct Scan<K: KeyOrder> {
     walk: Visible<K, Merge<K, SourceCursor<K>>>,
     // the tables that it goes over
     version: Rc<Version<K>>,
-    // the generations of the memory tables that it reads
+    // the generations of the memtables that it reads
     generation: u64,
     sealed: Option<u64>,
 }

@@ -28,7 +28,7 @@ OwnsNone w tables = (number : ℕ) → IsOwn w number → is_used number tables 
 
 -- The tables are the plan's inputs and the rest. The inputs may be replaced by tables of the plan's
 -- level: of a key that they have, the rest has newer entries, or the key is a deep one. No two of
--- their entries share key and sequence, and an edit can name them.
+-- their entries share key and sequence number, and an edit can name them.
 pub record IsPlanned (order : Order) (deep : List ℕ → Bool) (plan : JobPlan) (contents inputs rest : List TableContent) : Type 0 where
   pub parted : AreParted contents inputs rest
   pub planned : IsPermutation plan.inputs.items (placed_in inputs)

@@ -38,7 +38,7 @@ pub struct FlushPlan {
     pub log_number: u64,
     /// The previous log of the layout, or 0.
     pub previous_log_number: u64,
-    /// The last sequence that is used.
+    /// The last sequence number that is used.
     pub last_sequence: u64,
     /// With how many bytes a data block is ended.
     pub block_bytes: usize,

@@ -1,4 +1,4 @@
-//! A memory table as a table file of level 0 (LevelDB's db/builder.cc, BuildTable).
+//! A memtable as a table file of level 0 (LevelDB's db/builder.cc, BuildTable).
 
 ghost use Rattle.std.specs.Prelude.{◌≡◌, ◌<◌, ◌^◌, ◌++◌, ◌∷◌, [], ℕ, List, Some, None, IsTrue, IsSome, IfOk, IfErr, OnOk, length};
 ghost use Rattle.std.specs.FinMap.{get};

@@ -24,7 +24,7 @@ pub fn planned_apart_law()
     ensures { PlannedApartLaw }
 {}
 
-/// Proves that no two entries that a job merges share key and sequence.
+/// Proves that no two entries that a job merges share key and sequence number.
 pub fn own_sequences_law()
     ensures { OwnSequencesLaw }
 {}

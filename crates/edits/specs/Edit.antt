@@ -11,7 +11,7 @@ use Rattle.edits.specs.declared.field.TableFile.{TableFile}
 use Rattle.coding.specs.Spelling.{InTurn}
 use Rattle.ikey.specs.Keys.{Key, IsKey}
 
--- a number of at most 64 bits, a sequence, a level, the number of a table
+-- a number of at most 64 bits, a sequence number, a level, the number of a table
 abbrev pub IsLong : List ℕ → ℕ → Type 0
 IsLong bytes n = IsVarint bytes n × (n < 2 ^ 64)
 

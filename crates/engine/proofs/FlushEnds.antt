@@ -275,7 +275,7 @@ module _ {K : Type 0} {g : _} (order : Order) (kept : (scan : Scan K g) → Scan
         serving_flushed order kept one lasts law flushes old facts before m serving plan numbers.next (stays_below m serving f) (names_below m serving f) (sound_still m serving f) done.free upto.1 end version.value.tables version.value.compact_pointers (with_table end version front).directory entries in_order done refl refl refl refl refl refl upto.0 front (synced f m serving) (logs_left f m serving) (named_still m serving f (carries f)),
       )))
 
-  -- and its file has the entries of the memory table
+  -- and its file has the entries of the memtable
   pub table_put : (end : ℕ) (version : Rc Placement Global) (front : Vec (String Global)) (after : DbState K g) → after ≡ with_table end version front
       → (IsTrue facts.faithful → (d : Directory) (sealed : List LogContent) (current : LogContent) → CanFlush order old.facts.files next plan state.directory.manifest entries before.tables d sealed current
       → IsFlushed order old.facts.files facts.files next numbers.next end entries version.value.tables d sealed current)

@@ -127,8 +127,8 @@ module _ {K : Type 0} {g : _} where
     sequences = λ s i. subst (λ (ss : List ℕ). Contains ss s) (sym sequences) (h.sequences s (subst (λ (ss : List ℕ). Contains ss s) snapshots i));
   }
 
-  -- one that is for the sequences that are read at is so where it is for the same, and the same are
-  -- read at
+  -- one that is for the sequence numbers that are read at is so where it is for the same, and the
+  -- same are read at
   pub still_live : (work more : OpenJob K g) (before after : OpenDb K g) → more.job.selection.snapshots ≡ work.job.selection.snapshots → live_sequences after ≡ live_sequences before → IsForLive work before → IsForLive more after
   still_live work more before after kept same h = record {
     each = λ s i. subst (λ (ss : List ℕ). Contains ss s) (sym kept) (h.each s (subst (λ (ss : List ℕ). Contains ss s) same i));

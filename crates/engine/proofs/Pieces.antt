@@ -1,4 +1,4 @@
--- What stands when a piece of work has changed the files, the memory tables and what is kept of
+-- What stands when a piece of work has changed the files, the memtables and what is kept of
 -- tables.
 use Rattle.std.proofs.Common.{◌≡◌, ◌⊎◌, ℕ, ◌+◌, ◌≤◌, true, List, [], ◌∷◌, length, Option, Some, None, is_some, MatchOption, inl, inr, refl, sym, ap, subst, ◌∙◌, arith, sum_by}
 use Rattle.std.specs.List.{AllByRecursion}

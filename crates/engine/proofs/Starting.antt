@@ -1,4 +1,4 @@
--- A new iterator over the memory tables and the tables of a directory.
+-- A new iterator over the memtables and the tables of a directory.
 use Rattle.std.proofs.Common.{ap, ◌∙◌, ◌≡◌, inl, inr, ℕ, zero, suc, Bool, false, Option, Some, None, IsSome, ◌≤◌, ◌++◌, List, [], ◌∷◌, Contains, map, refl, sym, subst, arith}
 use Rattle.std.specs.Cmp.{IsTotalOrder}
 use Rattle.std.specs.declared.cmp.Ordering.{Ordering}

@@ -38,7 +38,7 @@ logged_newer order files tables entries used (inl none) a b i j key = absurd (su
 logged_newer order files tables entries used (inr some) a b i j key =
     some.1.newer a b (subst (λ (es : List Entry). Among es a) some.3 i) (subst (λ (cs : List TableContent). Among (tabled cs) b) some.2 j) key
 
--- no entry is above the last sequence used
+-- no entry is above the last sequence number used
 bounded_in : (order : Order) (files : Files) (d : Directory) → IsConsistent order files d → AllUpTo (used_in d) (tabled d.tables ++ logged d.logs)
 bounded_in order files d h e i = elim (among_split (tabled d.tables) (logged d.logs) e i) [
   | inl old ↦ (let below : e.sequence ≤ d.layout.last_sequence = h.recorded e old in omega (arith, below))

@@ -54,7 +54,7 @@ IsRead key snapshot None (Value value) = ⊥
 IsRead key snapshot (Some db) (Value value) = (sequence : ℕ) × (sequence_at db snapshot ≡ Some sequence) × ReadsMemory db sequence key value
 IsRead key snapshot state _ = Unit {0}
 
--- Work is done where a compaction is under way, a memory table is sealed or full, or a level wants
+-- Work is done where a compaction is under way, a memtable is sealed or full, or a level wants
 -- a compaction, and else there is none.
 abbrev pub ShowsWork : {K : Type 0} {g : _} → OptionValues → Option (OpenDb K g) → Answer → Type 0
 ShowsWork options (Some db) Worked =
@@ -101,8 +101,8 @@ Shuts Close state = state ≡ None
 Shuts _ state = Unit {0}
 
 -- What a call of work promises beside its step: which piece of work it was, how far it brought a
--- compaction, and what a table has that it wrote of a memory table; where there was none, that the
--- files are exactly the live ones, unless one couldn't be removed, and that no memory table is kept
+-- compaction, and what a table has that it wrote of a memtable; where there was none, that the
+-- files are exactly the live ones, unless one couldn't be removed, and that no memtable is kept
 -- that is of no use.
 pub record DoneWork {K : Type 0} {g : _} (order : Order) (options : OptionValues) (budget : ℕ) (old new : Seen) (before after : OpenDb K g) (result : Result Progress DbError) : Type 0 where
   pub does : DoesWork order.cmp options budget before after result
@@ -131,7 +131,7 @@ abbrev pub LevelAnswered : {K : Type 0} {g : _} → Order → ℕ → Seen → S
 LevelAnswered order level old new before after Done = DoneLevel order level old new before after
 LevelAnswered order level old new before after _ = Unit {0}
 
--- So of the command. Done or refused, no entry of a memory table is touched.
+-- So of the command. Done or refused, no entry of a memtable is touched.
 abbrev pub LevelIn : {K : Type 0} {g : _} → Order → ℕ → Seen → Seen → Option (OpenDb K g) → Option (OpenDb K g) → Answer → Type 0
 LevelIn order level old new (Some before) (Some after) answer = LeavesMemories before.memory after.memory × LevelAnswered order level old new before after answer
 LevelIn order level old new (Some before) None answer = ⊥
@@ -257,7 +257,7 @@ DbWorks cmp budget old new result = DoesWork cmp old.options budget (open_by old
 abbrev pub DbTidies : {S K : Type 0} {g : _} → (S → Facts) → Db S K g → Db S K g → Result Progress DbError → Type 0
 DbTidies facts old new result = result ≡ Ok Idle → IsTrue (facts (db_store_of new)).faithful → (facts (db_store_of new)).failures ≡ (facts (db_store_of old)).failures → HasLiveOnly (facts (db_store_of new)).files (open_by new)
 
--- No memory table is kept then that is of no use.
+-- No memtable is kept then that is of no use.
 abbrev pub DbDrops : {S K : Type 0} {g : _} → Db S K g → Result Progress DbError → Type 0
 DbDrops new result = result ≡ Ok Idle → HasUsedMemory new.source.memory new.state.iterators
 
@@ -273,7 +273,7 @@ DbExact order facts old new result = LeavesExactlyLive order (seen_by facts old)
 abbrev pub DbEndsWithin : {S K : Type 0} {g : _} → Order → (S → Facts) → ℕ → Db S K g → Db S K g → Result Progress DbError → Type 0
 DbEndsWithin order facts budget old new result = EndsWithin order old.options budget (seen_by facts old) (seen_by facts new) (open_by old) (open_by new) result
 
--- The table that it wrote of a sealed memory table has exactly that one's entries.
+-- The table that it wrote of a sealed memtable has exactly that one's entries.
 abbrev pub DbFlushes : {S K : Type 0} {g : _} → Order → (S → Facts) → Db S K g → Db S K g → Result Progress DbError → Type 0
 DbFlushes order facts old new result = FlushesSealed order (seen_by facts old) (seen_by facts new) (open_by old) (open_by new) result
 

@@ -41,7 +41,7 @@ pub record MovesLevel {K : Type 0} {g : _} (cmp : Cmp) (level : ℕ) (before aft
   pub moved : ((tables_at level between ≡ []) × (after.tables ≡ between)) ⊎ ((plan : JobPlan) × IsLevelPlan cmp between level plan × ReplacesInputs plan between after.tables)
   pub idle : after.job ≡ None
 
--- No entry is in memory alone, and no memory table is sealed.
+-- No entry is in memory alone, and no memtable is sealed.
 pub record HasNoMemory {K : Type 0} {g : _} (db : OpenDb K g) : Type 0 where
   pub current : db.memory.current.inserts ≡ []
   pub sealed : db.memory.sealed ≡ None

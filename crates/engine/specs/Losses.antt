@@ -95,7 +95,7 @@ LeavesFoundLogs files lost db = (n : ℕ) → IsNumbered n → n < db.directory.
 
 -- The files hold the first of the batches that the machine accepted, no fewer than the last write
 -- with sync had the device keep, and no others: none is gone in front of one that is there. (A
--- MANIFEST may have recorded that later sequences were used.)
+-- MANIFEST may have recorded that later sequence numbers were used.)
 pub record HoldsFirst (order : Order) (files : Files) (m : Machine) : Type 0 where
   pub count : ℕ
   pub within : count ≤ length m.batches

@@ -22,7 +22,7 @@ OnlyWorks old new = (old.numbers ≤ new.numbers) × (new ≈ record old { numbe
 abbrev pub OnlyDraws : Machine → Machine → Type 0
 OnlyDraws old new = OnlyWorks old new × (new.broken ≡ old.broken)
 
--- Work keeps up with writes: the memory table that takes them has fewer bytes than it may, and
+-- Work keeps up with writes: the memtable that takes them has fewer bytes than it may, and
 -- level 0 at most three times as many tables as bring a compaction about.
 pub record HasKeptUp {K : Type 0} {g : _} (options : OptionValues) (db : OpenDb K g) : Type 0 where
   pub memory : size_of db.memory.current.inserts < options.write_buffer

@@ -39,8 +39,8 @@ HasLeftBy order source db most job = MatchOption job (HasLeftUpTo order source d
 
 -- ---- where it began
 
--- It is the compaction that is most wanted, for the sequences that are read at, and nothing came to
--- it.
+-- It is the compaction that is most wanted, for the sequence numbers that are read at, and nothing
+-- came to it.
 pub record IsNewJob {K : Type 0} {g : _} (cmp : Cmp) (options : OptionValues) (db : OpenDb K g) (work : OpenJob K g) : Type 0 where
   pub none : work.merged ≡ 0
   pub picked : IsPicked cmp options.level0_files options.base_bytes (version_of db) work.job.plan

@@ -32,7 +32,7 @@ use Rattle.engine.specs.declared.work.Progress.TheVariants as progress
 -- ---- which piece it is
 
 -- so many entries more of its inputs came to the same compaction, which is for the same version and
--- the same sequences
+-- the same sequence numbers
 abbrev pub IsFurther : {K : Type 0} {g : _} → OpenJob K g → ℕ → OpenJob K g → Type 0
 IsFurther work merged more = (more.job.plan ≡ work.job.plan) × (more.merged ≡ shown (work.merged + merged)) × (more.job.selection.snapshots ≡ work.job.selection.snapshots) × (more.version ≡ work.version)
 
@@ -44,7 +44,7 @@ pub record GoesOn {K : Type 0} {g : _} (budget : ℕ) (before after : OpenDb K g
   pub was : before.job ≡ Some work
   pub on : MatchOption after.job (ReplacesInputs work.job.plan before.tables after.tables) (λ more. IsFurther work (max budget 1) more × (after.tables ≡ before.tables))
 
--- None was, and the sealed memory table has become a table of level 0, unless it was empty.
+-- None was, and the sealed memtable has become a table of level 0, unless it was empty.
 pub record WritesTable {K : Type 0} {g : _} (before after : OpenDb K g) : Type 0 where
   pub idle : before.job ≡ None
   pub was : IsSome before.memory.sealed
@@ -53,7 +53,7 @@ pub record WritesTable {K : Type 0} {g : _} (before after : OpenDb K g) : Type 0
   pub still : after.job ≡ None
   pub table : (sealed_inserts before.memory ≡ []) ⊎ ((table : TableFile) × ListsSameTables (inserted (record { level = 0; table = table }) before.tables) after.tables)
 
--- Nor was anything sealed. The memory table is, and an empty one has taken its place, with a log of
+-- Nor was anything sealed. The memtable is, and an empty one has taken its place, with a log of
 -- its own.
 pub record SealsMemory {K : Type 0} {g : _} (before after : OpenDb K g) : Type 0 where
   pub idle : before.job ≡ None
@@ -65,7 +65,7 @@ pub record SealsMemory {K : Type 0} {g : _} (before after : OpenDb K g) : Type 0
   pub log : after.log.number ≡ before.directory.numbers.next
   pub begins : after.log.end ≡ 0
 
--- No compaction is under way, nothing is sealed, and the memory table has fewer bytes than it may.
+-- No compaction is under way, nothing is sealed, and the memtable has fewer bytes than it may.
 pub record IsAtEase {K : Type 0} {g : _} (options : OptionValues) (db : OpenDb K g) : Type 0 where
   pub idle : db.job ≡ None
   pub none : db.memory.sealed ≡ None
@@ -93,8 +93,8 @@ pub record HasNoWork {K : Type 0} {g : _} (options : OptionValues) (db : OpenDb 
   pub ease : IsAtEase options db
   pub unwanted : (level : ℕ) → WantsCompaction options db level → ⊥
 
--- Work goes on with the compaction under way; writes a table where one is sealed; seals the memory
--- table where that is full; begins the compaction that is most wanted; and else there is none.
+-- Work goes on with the compaction under way; writes a table where one is sealed; seals the
+-- memtable where that is full; begins the compaction that is most wanted; and else there is none.
 abbrev pub DoesWork : {K : Type 0} {g : _} → Cmp → OptionValues → ℕ → OpenDb K g → OpenDb K g → Result Progress DbError → Type 0
 DoesWork cmp options budget before after (Ok progress.Worked) =
     GoesOn budget before after ⊎ WritesTable before after ⊎ ((options.write_buffer ≤ size_of before.memory.current.inserts) × SealsMemory before after) ⊎ Begins cmp options budget before after

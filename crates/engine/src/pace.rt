@@ -31,7 +31,7 @@ const MOST_OPERATIONS: usize = 1 << 20;
 /// Tells whether work keeps up with what is written.
 #[derive(Clone, Copy, Debug, PartialEq, Eq)]
 pub enum Pace {
-    /// The memory table that takes writes has fewer than `write_buffer` bytes, and level 0 at most
+    /// The memtable that takes writes has fewer than `write_buffer` bytes, and level 0 at most
     /// three times `level0_files` tables.
     KeepsUp,
     /// Work was refused for this. What was written is there.
@@ -148,7 +148,7 @@ impl<S: Store, K: KeyOrder> Db<S, K> {
         Pace::Refused(DbError::OutOfMemory)
     }
 
-    // Whether it has kept up, and no memory table waits for its table.
+    // Whether it has kept up, and no memtable waits for its table.
     fn can_rest(&self) -> bool
         ensures { MatchBool result (HasKeptUp (db_options_of self.now) (open_by self.now) × ((open_by self.now).memory.sealed ≡ None)) (Unit {0}) }
     {

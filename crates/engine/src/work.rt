@@ -76,7 +76,7 @@ impl<K: KeyOrder> DbState<K> {
         // were left than the budget has.
         ensures within { EndsWithin (order_of K.name K.cmp) options.now budget (seen_of S.facts source.old)
             (seen_of S.facts source.new) (open_db source.old.memory self.old) (open_db source.new.memory self.new) result }
-        // The table that it wrote of a sealed memory table has exactly that one's entries then.
+        // The table that it wrote of a sealed memtable has exactly that one's entries then.
         ensures flushes { FlushesSealed (order_of K.name K.cmp) (seen_of S.facts source.old)
             (seen_of S.facts source.new) (open_db source.old.memory self.old) (open_db source.new.memory self.new) result }
         // If there is none, all files are in use, unless one couldn't be removed.
@@ -215,7 +215,7 @@ impl<K: KeyOrder> DbState<K> {
         Ok(Progress::Worked)
     }
 
-    /// Writes the sealed memory table into a table file. An empty one needs none. Where a write of
+    /// Writes the sealed memtable into a table file. An empty one needs none. Where a write of
     /// the store fails, the database is broken.
     pub fn flush<S: Store>(
         &mut self,
@@ -275,7 +275,7 @@ impl<K: KeyOrder> DbState<K> {
         }
     }
 
-    /// Seals the memory table, and begins a log for what is written from now on. Where a write of
+    /// Seals the memtable, and begins a log for what is written from now on. Where a write of
     /// the store fails, the database is broken.
     pub fn seal<S: Store>(
         &mut self,

@@ -13,7 +13,7 @@ const FIRST: Ids = Ids {
     iterator: 0,
 };
 
-// A memory table is sealed by its first entry.
+// A memtable is sealed by its first entry.
 fn options() -> Option<Options> {
     Options::new(1, 4_096, 2_097_152, 4, 10_485_760, 1_024)
 }

@@ -71,7 +71,7 @@ fn put_zeros(
     put(store, name, &bytes)
 }
 
-// Bytewise, log number 2, next file number 3, last sequence 0.
+// Bytewise, log number 2, next file number 3, last sequence number 0.
 const EDIT: &[u8] = b"\x01\x1aleveldb.BytewiseComparator\x02\x02\x03\x03\x04\x00";
 
 fn directory(alloc: Global, value: &[u8], case: &Case) -> Result<MemStore, DbError> {

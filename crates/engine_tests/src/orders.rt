@@ -96,7 +96,7 @@ fn a_new_database_records_its_order(rt: HostRuntime) -> Result<(), Fail> {
     Ok(())
 }
 
-// The edit of a MANIFEST that names no order: log 3, next file 6, last sequence 1.
+// The edit of a MANIFEST that names no order: log 3, next file 6, last sequence number 1.
 const UNNAMED: &[u8] = b"\x02\x03\x03\x06\x04\x01";
 
 const OTHER: DbError = DbError::Unsupported(Feature::Comparator);

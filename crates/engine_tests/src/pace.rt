@@ -7,7 +7,7 @@ use std::alloc::{AllocGlobal, Global};
 use std::test::Fail;
 use store::{Extent, Fault, FaultStore, MemStore, Plan, Store};
 
-// By how many of level 0 a compaction is brought about, and the bytes of a memory table and of a
+// By how many of level 0 a compaction is brought about, and the bytes of a memtable and of a
 // table file.
 const LEVEL0_FILES: u64 = 2;
 

@@ -20,7 +20,7 @@ const PUTS: &[(&[u8], &[u8])] = &[
     (b"\xff\xff", b"8"),
 ];
 
-// Opens a database in memory whose memory table is sealed by each write, and writes all of it
+// Opens a database in memory whose memtable is sealed by each write, and writes all of it
 // there; some of it comes into tables.
 fn written<K: KeyOrder>(alloc: Global) -> Result<Db<MemStore, K>, DbError> {
     let options = Options::default()

@@ -31,7 +31,7 @@ struct Row {
     call: u64,
 }
 
-// A memory table is sealed by its first entry.
+// A memtable is sealed by its first entry.
 const EAGER: Sizes = Sizes {
     write_buffer: 1,
     file_bytes: 2_097_152,

@@ -1,4 +1,4 @@
-//! The process stops at each call of the store: not at all done, wholly, and of an append with a
+//! The process crashes at each call of the store: not at all done, wholly, and of an append with a
 //! beginning of its bytes.
 use crate::endings::{are_left, remains_of};
 use crate::lines::Line;
@@ -93,7 +93,7 @@ fn left_by(alloc: Global, start: &Start, script: Script, call: u64, extent: Exte
     }
 }
 
-// Stops at a call in each way. Answers in how many ways, if all is well.
+// Crashes at a call in each way. Answers in how many ways, if all is well.
 fn stops_at(alloc: Global, start: &Start, script: Script, call: u64) -> Option<u64> {
     let before = left_by(alloc, start, script, call, Extent::Before)?;
     let behind = left_by(alloc, start, script, call, Extent::After)?;
@@ -107,7 +107,7 @@ fn stops_at(alloc: Global, start: &Start, script: Script, call: u64) -> Option<u
     Some(5)
 }
 
-// How many stops of a script there were, all well, or the first call at which one isn't.
+// How many crashes of a script there were, all well, or the first call at which one isn't.
 fn first_wrong(alloc: Global, start: &Start, script: Script) -> Result<u64, u64> {
     let Ok(
         Outcome {

@@ -6,11 +6,11 @@ use std::test::*;
 // What a batch has: keys, each with its value, or with none where it is deleted.
 type Given = (&'static [u8], Option<&'static [u8]>);
 
-// Put `a` = `1` at sequence 1.
+// Put `a` = `1` at sequence number 1.
 const ONE_PUT: [u8; 17] = [1, 0, 0, 0, 0, 0, 0, 0, 1, 0, 0, 0, 1, 1, 0x61, 1, 0x31];
 
-// Sequences, operations and their bytes. The last sequence is 2^56 - 1: a batch of one operation
-// may have it.
+// Sequence numbers, operations and their bytes. The last sequence number is 2^56 - 1: a batch of
+// one operation may have it.
 const ENCODED: [(u64, &[Given], &[u8]); 5] = [
     (1, &[(b"a", Some(b"1"))], &ONE_PUT),
     (
@@ -159,7 +159,7 @@ const CHANGES: [(usize, u8, Damage); 9] = [
     (15, 0x81, Damage::Length),
 ];
 
-// More operations than there are bytes, and one of three past the last sequence.
+// More operations than there are bytes, and one of three past the last sequence number.
 const DAMAGED: [(&[u8], Damage); 2] = [
     (b"\0\0\0\0\0\0\0\0\xff\xff\xff\xff", Damage::Length),
     (

@@ -356,7 +356,7 @@ fn malformed_blocks_are_refused(rt: HostRuntime) -> Result<(), Fail> {
     Ok(())
 }
 
-// The keys of a delete of `a` at sequence 2 and of a put at 1.
+// The keys of a delete of `a` at sequence number 2 and of a put at 1.
 const NEWER: &[u8] = b"a\0\x02\0\0\0\0\0\0";
 
 const OLDER: &[u8] = b"a\x01\x01\0\0\0\0\0\0";

@@ -219,7 +219,7 @@ fn a_quick_look_sees_one_byte(rt: HostRuntime) {
     }
 }
 
-// Keys, and how the first key of `a` at sequence 7 stands to each.
+// Keys, and how the first key of `a` at sequence number 7 stands to each.
 const SEEK_KEY: &[u8] = b"a\x01\x07\0\0\0\0\0\0";
 
 const SOUGHT: [(&[u8], Ordering); 4] = [
@@ -237,7 +237,7 @@ fn a_seek_key_stands_in_front_of_what_is_visible(rt: HostRuntime) {
     }
 }
 
-// The entry of `a` at sequence 1.
+// The entry of `a` at sequence number 1.
 fn entry_of(alloc: Global, value: Option<Bytes>) -> Result<Entry, AllocError> {
     let key = Bytes::copied_from(alloc, b"a")?;
     Ok(Entry {

@@ -3,7 +3,7 @@ use logfile::{LogWriter, Tail, judge_block, read_log};
 use std::alloc::{AllocError, Global};
 use std::test::*;
 
-// A write batch: put `a` = `1` at sequence 1.
+// A write batch: put `a` = `1` at sequence number 1.
 const BATCH: &[u8] = b"\x01\0\0\0\0\0\0\0\x01\0\0\0\x01\x01a\x011";
 
 // The log of that record: the checksum, the length and the type, and the batch.

@@ -15,8 +15,8 @@ const COMPARATOR: &[u8] = b"leveldb.BytewiseComparator";
 // The internal key of put(61) at sequence number 1.
 const KEY: [u8; 9] = [0x61, 1, 1, 0, 0, 0, 0, 0, 0];
 
-// The edit of a flush: log 3, next file 5, last sequence 1, and the table 4 of 176 bytes at level
-// 0.
+// The edit of a flush: log 3, next file 5, last sequence number 1, and the table 4 of 176 bytes at
+// level 0.
 const FLUSH: [u8; 31] = [
     0x02, 0x03, 0x03, 0x05, 0x04, 0x01, 0x07, 0x00, 0x04, 0xB0, 0x01, 0x09, 0x61, 0x01, 0x01, 0, 0,
     0, 0, 0, 0, 0x09, 0x61, 0x01, 0x01, 0, 0, 0, 0, 0, 0,
@@ -219,7 +219,7 @@ const MALFORMED: [&[u8]; 25] = [
     &[
         7, 0, 0, 1, 8, 1, 1, 0, 0, 0, 0, 0, 0, 8, 1, 1, 0, 0, 0, 0, 0, 0,
     ],
-    // a last sequence of 2^56
+    // a last sequence number of 2^56
     &[4, 0x80, 0x80, 0x80, 0x80, 0x80, 0x80, 0x80, 0x80, 1],
     // strings that are cut
     &[1, 2, b'c'],

@@ -31,8 +31,8 @@ pub record IsKey (bytes : List ℕ) (key : Key) : Type 0 where
   pub sequence_fits : key.sequence < 2 ^ 56
   pub parts : bytes ≡ key.user ++ fixed64 (tag_of key)
 
--- the user keys up, in the given order; then the number of sequence and kind down, so the newer one
--- comes first (LevelDB's db/dbformat.cc, InternalKeyComparator)
+-- the user keys up, in the given order; then the number of sequence number and kind down, so the
+-- newer one comes first (LevelDB's db/dbformat.cc, InternalKeyComparator)
 abbrev pub key_cmp : (List ℕ → List ℕ → Ordering) → Key → Key → Ordering
 key_cmp cmp = then_cmp (on (λ (k : Key). k.user) cmp) (flip_args (on tag_of nat_cmp))
 

@@ -71,7 +71,7 @@ MissedLaw = (sources : List (List Entry)) (sequence : ℕ) (key : List ℕ) → 
 abbrev pub ByTwoLaw : Type 0
 ByTwoLaw = (sources : List (List Entry)) → AreSearched sources ↔ AreSearchedByTwo sources
 
--- New entries, above all sequences, may be put into the first source.
+-- New entries, above all sequence numbers, may be put into the first source.
 abbrev pub GrownLaw : Type 0
 GrownLaw = (first more : List Entry) (sources : List (List Entry)) (used : ℕ) → AreSearched (first ∷ sources) → AllUpTo used (joined (first ∷ sources))
     → ((entry : Entry) → Among more entry → used < entry.sequence) → AreSearched ((first ++ more) ∷ sources)
@@ -92,13 +92,13 @@ SameViewLaw = (xs ys : List Entry) (sequence : ℕ) → SameEntries xs ys → ((
 abbrev pub ComesBefore : Order → Entry → Entry → Type 0
 ComesBefore order a b = (order.cmp a.key b.key ≡ Less) ⊎ ((a.key ≡ b.key) × (b.sequence < a.sequence))
 
--- each entry comes before all behind it, so that no two share a key and a sequence
+-- each entry comes before all behind it, so that no two share a key and a sequence number
 abbrev pub AreSorted : Order → List Entry → Type 0
 AreSorted order [] = Unit {0}
 AreSorted order (entry ∷ entries) = ((other : Entry) → Among entries other → ComesBefore order entry other) × AreSorted order entries
 
 -- the entry comes before what is sought: its key does, or it is an entry of the key above the
--- sequence
+-- sequence number
 abbrev pub ComesBeforeSought : Order → ℕ → List ℕ → Entry → Type 0
 ComesBeforeSought order sequence key entry = (order.cmp entry.key key ≡ Less) ⊎ ((entry.key ≡ key) × (sequence < entry.sequence))
 

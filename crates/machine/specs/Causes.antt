@@ -78,7 +78,7 @@ lacks_place stands motion = if needs_place motion then (if stands then None else
 abbrev pub open_cause : Status → Option DbError
 open_cause s = if s.opened then (if s.broken then Some error.Broken else Some error.AlreadyOpen) else None
 
--- sequences are below 2^56
+-- sequence numbers are below 2^56
 abbrev pub full : Status → List Operation → Option DbError
 full s [] = None
 full s (operation ∷ operations) = if nat_lt (2 ^ 56 - 1) (s.used + length (operation ∷ operations)) then Some error.SequenceFull else None

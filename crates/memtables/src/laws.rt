@@ -1,4 +1,4 @@
-//! What cursors over the memory tables read after the tables have changed.
+//! What cursors over the memtables read after the tables have changed.
 
 ghost use Rattle.std.specs.Prelude.{◌≡◌, ◌≤◌, ◌<◌, ℕ, List, IsSome};
 ghost use Rattle.std.specs.List.{AllByRecursion};

@@ -1,4 +1,4 @@
-//! A cursor over one of the memory tables of an open database (LevelDB's db/memtable.cc,
+//! A cursor over one of the memtables of an open database (LevelDB's db/memtable.cc,
 //! MemTableIterator).
 
 use crate::memory_tables::MemoryTables;

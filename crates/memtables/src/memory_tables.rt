@@ -1,4 +1,4 @@
-//! The memory tables of an open database (LevelDB's db/memtable.h, and db/db_impl.h, DBImpl::mem_
+//! The memtables of an open database (LevelDB's db/memtable.h, and db/db_impl.h, DBImpl::mem_
 //! and DBImpl::imm_).
 
 ghost use Rattle.std.specs.Prelude.{◌≡◌, ◌++◌, ◌∷◌, [], ◌⊎◌, Some, IfOk, IfSome, MatchBool, sum_by};
@@ -358,7 +358,7 @@ fn is_used<U: Users>(users: &U, sealed: Option<u64>, generation: u64) -> bool
     sealed == Some(generation) || users.names(generation)
 }
 
-// What the newest entry of a user key up to a sequence put into this table.
+// What the newest entry of a user key up to a sequence number put into this table.
 fn value_in<K: KeyOrder>(
     alloc: Global,
     table: &MemTable<K>,

@@ -1,4 +1,4 @@
-//! Who reads which memory table.
+//! Who reads which memtable.
 
 ghost use Rattle.std.specs.Prelude.{ℕ, MatchBool};
 

@@ -22,11 +22,11 @@ use store::Store;
 pub struct Found {
     /// The layout; one of nothing where there is no database.
     pub layout: Layout,
-    /// The entries of the live logs, as they were written.
+    /// The entries of the logs in use, as they were written.
     pub entries: Vec<Entry>,
     /// What is reported of each of these logs.
     pub logs: Vec<LogSummary>,
-    /// The last sequence used.
+    /// The last sequence number used.
     pub used: u64,
     /// The number of the new MANIFEST; the new log has the next one.
     pub number: u64,

@@ -114,7 +114,7 @@ struct LiveLogs {
     previous: u64,
 }
 
-// Where the logs have entries they stay live; else the new log is the first.
+// If the logs have entries they stay in use; else the new log is the first.
 fn live_logs(found: &Found) -> LiveLogs
     requires { found.now.number + 1 < 2 ^ 62 }
     ensures { KeepsLogs found.now result.from result.previous }

@@ -35,7 +35,7 @@ MayBeginWalk cmp map whole iterator = (pairs : List (List ℕ × List ℕ)) × A
 abbrev pub KeepsMayBe : {K : Type 0} {g : _} → (List ℕ → List ℕ → Ordering) → Scan K g → Whole → Whole → Type 0
 KeepsMayBe cmp scan old new = (walk : Walk) → MayBeWalk cmp old scan walk → MayBeWalk cmp new scan walk
 
--- what an iterator answers from: its sequence, and the key on which it stands
+-- what an iterator answers from: its sequence number, and the key on which it stands
 abbrev pub standing : {K : Type 0} {g : _} → Scan K g → ℕ × Option (List ℕ)
 standing scan = (scan.walk.sequence, if scan.walk.stands then Some scan.walk.here.key.items else None)
 

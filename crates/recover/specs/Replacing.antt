@@ -28,7 +28,7 @@ pub record MayReplace (order : Order) (inputs rest : List TableContent) (level :
   pub older : (stays input : TableContent) → InTables rest stays → InTables inputs input → level < stays.placed.level → AreNewer input stays
   pub beside : (stays : TableContent) → InTables rest stays → stays.placed.level ≡ level → LiesBelow order stays (tabled inputs) ⊎ LiesAbove order stays (tabled inputs)
 
--- no two of them have the same key and the same sequence
+-- no two of them have the same key and the same sequence number
 abbrev pub AreDistinct : List Entry → Type 0
 AreDistinct [] = Unit {0}
 AreDistinct (entry ∷ entries) = ((other : Entry) → Among entries other → entry.key ≡ other.key → entry.sequence ≢ other.sequence) × AreDistinct entries

@@ -109,8 +109,8 @@ pub fn unread_law()
     ensures { UnreadLaw }
 {}
 
-/// Proves that no two entries of a consistent directory share a key and a sequence, so that of each
-/// key one is the newest.
+/// Proves that no two entries of a consistent directory share a key and a sequence number, so that
+/// of each key one is the newest.
 pub fn distinct_law()
     ensures { DistinctLaw }
 {}

@@ -37,7 +37,7 @@ pub fn oldest_first<'a, K: KeyOrder>(
     Ok(logged)
 }
 
-// By key, then by sequence.
+// By key, then by sequence number.
 fn compare_logged<K: KeyOrder>(a: &Logged<'_>, b: &Logged<'_>) -> Ordering
     ensures { result ≡ age_cmp K.cmp a.now b.now }
 {

@@ -28,7 +28,7 @@ use store::{Store, Why};
 pub struct Overview {
     /// What the edits of its MANIFEST leave.
     pub layout: Layout,
-    /// The live logs, by number.
+    /// The logs in use, by number.
     pub logs: Vec<LogLength>,
 }
 

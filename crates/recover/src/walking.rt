@@ -49,7 +49,7 @@ impl Head {
         }
     }
 
-    /// Puts this key and this sequence in its place.
+    /// Puts this key and this sequence number in its place.
     pub fn set(&mut self, user: &[u8], sequence: u64) -> Result<(), AllocError>
         ensures user { OnOk result (self.new.user.items ≡ user.now) }
         ensures sequence { OnOk result (self.new.sequence ≡ sequence) }

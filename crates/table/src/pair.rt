@@ -13,7 +13,7 @@ use std::rc::Rc;
 #[derive(Debug, Drop)]
 pub struct KeyValue {
     /// In a data block the bytes of an internal key: the user key, and eight bytes with sequence
-    /// and kind.
+    /// number and kind.
     pub key: Bytes,
     /// The value of a put, and nothing for a delete.
     pub value: Bytes,

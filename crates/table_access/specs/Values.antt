@@ -50,7 +50,7 @@ pub record DeniesKey (frame : Frame) (start : ℕ) (key : List ℕ) : Type 0 whe
   pub other : bound.user ≡ key → ⊥
   pub denied : TableDenies frame.filter place.handle.offset (hash_of key)
 
--- it says so of the first block that can have an entry of the user key up to this sequence
+-- it says so of the first block that can have an entry of the user key up to this sequence number
 pub record IsDenied (cmp : Cmp) (frame : Frame) (key : List ℕ) (sequence : ℕ) : Type 0 where
   pub target : List ℕ
   pub start : ℕ

@@ -1,4 +1,4 @@
-//! A cursor over a memory table (LevelDB's db/memtable.cc, MemTableIterator).
+//! A cursor over a memtable (LevelDB's db/memtable.cc, MemTableIterator).
 
 ghost use Rattle.std.specs.Prelude.{◌≡◌, ◌<◌, ◌^◌, ◌++◌, List, nat_lt, OnOk, IfSome};
 ghost use Rattle.ikey.specs.Entries.{internal_key_of, internal_entry_of};
@@ -72,7 +72,7 @@ impl<K: KeyOrder> MemoryCursor<K> {
     }
 
     /// Proves that a cursor that stands nowhere, as a new one does, stands for what is seen of any
-    /// memory table at its sequence.
+    /// memtable at its sequence number.
     pub fn begins(&self, table: &MemTable<K>)
         requires { self.now.node ≡ None }
         ensures { ListsMemory K.cmp self.now table.now (listed (seen_entries K.cmp table.now.inserts self.now.sequence) None) }
@@ -245,7 +245,7 @@ impl<K: KeyOrder> Cursor<K, MemTable<K>> for MemoryCursor<K> {
     ghost leaves_more = { λ fewer more old new less k. k };
 }
 
-// The first node from this one on whose entry is up to the sequence.
+// The first node from this one on whose entry is up to the sequence number.
 fn seen_from<K: KeyOrder>(table: &MemTable<K>, sequence: u64, node: Option<Node>) -> Option<Node>
     requires { IfSome node (IsPlace table.now.inserts) }
     ensures first { (front back : List Placed) → ordered K.cmp table.now.inserts ≡ front ++ back → node ≡ first_of back
@@ -265,7 +265,7 @@ fn seen_from<K: KeyOrder>(table: &MemTable<K>, sequence: u64, node: Option<Node>
     None
 }
 
-// The last node up to this one whose entry is up to the sequence.
+// The last node up to this one whose entry is up to the sequence number.
 fn seen_back<K: KeyOrder>(table: &MemTable<K>, sequence: u64, node: Option<Node>) -> Option<Node>
     requires { IfSome node (IsPlace table.now.inserts) }
     ensures last { (front back : List Placed) → ordered K.cmp table.now.inserts ≡ front ++ back → node ≡ last_of front

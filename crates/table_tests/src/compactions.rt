@@ -236,7 +236,7 @@ const INPUTS: [TableRow; 3] = [
     TableRow(1, 5, 176, b"b", 1, b"d", 1),
 ];
 
-// The internal key of put(d) at sequence 1.
+// The internal key of put(d) at sequence number 1.
 const POINTER: &[u8] = b"d\x01\x01\0\0\0\0\0\0";
 
 // From levels 1 and 2 to level 2.
@@ -425,7 +425,7 @@ fn jobs_write_what_must_be_kept(rt: HostRuntime) {
 
 #[rattlefmt::skip]
 const REFUSED: [(Case, u64, DbError); 5] = [
-    // Entries that don't rise, and two of one sequence.
+    // Entries that don't rise, and two of one sequence number.
     (Case { inputs: &[&[OLD_A, NEW_A]], count: 2, snapshots: &[9], deeper: NO_DEEPER, file_bytes: 1, tables: &[] }, 9, DbError::Corrupt(FileKind::Table, Damage::Order)),
     (Case { inputs: &[&[NEW_A], &[NEW_A]], count: 2, snapshots: &[9], deeper: NO_DEEPER, file_bytes: 1, tables: &[] }, 9, DbError::Corrupt(FileKind::Table, Damage::Order)),
     (Case { inputs: &[&[NEW_B, NEW_A]], count: 2, snapshots: &[9], deeper: NO_DEEPER, file_bytes: 1, tables: &[] }, 9, DbError::Corrupt(FileKind::Table, Damage::Order)),

@@ -173,7 +173,7 @@ const FLUSH_EDITS: &[(u64, &[u8])] = &[
 const FLUSHED: &[u8] =
     b"\xe8\x99\xd3\x40\x1f\x00\x01\x02\x03\x03\x05\x04\x01\x07\x00\x04\xb0\x01\x09a\x01\x01\x00\x00\x00\x00\x00\x00\x09a\x01\x01\x00\x00\x00\x00\x00\x00";
 
-// A memory table in which `61` is put as `31`.
+// A memtable in which `61` is put as `31`.
 fn sealed(alloc: Global) -> Result<MemTable<Bytewise>, AllocError>
     ensures some { IfOk result (λ memory. 0 < length memory.inserts) }
     ensures sequences { IfOk result (λ memory. HaveSequences memory.inserts) }

@@ -113,8 +113,8 @@ impl<K: KeyOrder, S: Store> Cursor<K, Counted<S>> for CountedCursor<K> {
     ghost leaves_more = { λ fewer more old new less k. tt };
 }
 
-// ---- entries by their numbers, which rise as the keys do: three sequences of each user key, the
-// newest first
+// ---- entries by their numbers, which rise as the keys do: three sequence numbers of each user
+// key, the newest first
 
 const NUMBERS: u8 = 60;
 
@@ -194,8 +194,8 @@ fn numbers_of(alloc: Global, owners: &[u8], first: u8, end: u8) -> Result<Vec<u8
     Ok(numbers)
 }
 
-// Those that are visible at sequence 8: of each user key the newest but the first, where that isn't
-// a delete.
+// Those that are visible at sequence number 8: of each user key the newest but the first, where
+// that isn't a delete.
 fn visible_of(alloc: Global, numbers: &[u8]) -> Result<Vec<u8>, AllocError> {
     let mut visible = Vec::new(alloc);
     let mut decided = None;

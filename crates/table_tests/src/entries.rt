@@ -101,8 +101,8 @@ fn is_found(found: &Option<KeyValue>, wanted: Option<&KeyValue>) -> bool {
     }
 }
 
-/// Returns whether a seek of the newest version of a key up to a sequence finds the entry of this
-/// place.
+/// Returns whether a seek of the newest version of a key up to a sequence number finds the entry of
+/// this place.
 pub fn finds<K: KeyOrder, S: Store>(
     alloc: Global,
     table: &Table<K>,

@@ -29,7 +29,7 @@ const PLACES: [TableRow; 4] = [
     TableRow(2, 3, 1, b"e", 1, b"f", 2),
 ];
 
-// A user key and a sequence, and what the newest entry put, or that it is a delete.
+// A user key and a sequence number, and what the newest entry put, or that it is a delete.
 #[rattlefmt::skip]
 const GETS: [(&[u8], u32, Option<Option<&[u8]>>); 13] = [
     (b"a", 40, Some(Some(b"\x02"))), (b"a", 29, Some(Some(b"\x01"))), (b"a", 19, Some(Some(b"\x04"))), (b"a", 1, None),

@@ -69,8 +69,8 @@ const OF_SEVEN_BYTES: [u8; 110] = [
 // place stays.
 type Led = (Turn, Option<Option<Pair>>);
 
-// A user key, sought up to sequence 9, and its value or that it has none, or None where the get is
-// refused.
+// A user key, sought up to sequence number 9, and its value or that it has none, or None where the
+// get is refused.
 type Got = (&'static [u8], Option<Option<Option<&'static [u8]>>>);
 
 // What a table answers.

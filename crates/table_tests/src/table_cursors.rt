@@ -178,7 +178,7 @@ fn a_missing_table_is_corrupt(rt: HostRuntime) {
 
 // ---- look-ups
 
-// A user key and a sequence, and what the newest entry put, or that it is a delete.
+// A user key and a sequence number, and what the newest entry put, or that it is a delete.
 #[rattlefmt::skip]
 const VALUES: [(&[u8], u32, Option<Option<&[u8]>>); 14] = [
     (b"a", 9, Some(Some(b"\x01"))), (b"a", 8, Some(None)), (b"a", 4, Some(None)), (b"a", 3, None),

@@ -19,7 +19,7 @@ enum Look {
     // the tables of a level, by their numbers
     Level(u32, &'static [u64]),
     All(&'static [u64]),
-    // the one table of a level in which a user key and a sequence are sought
+    // the one table of a level in which a user key and a sequence number are sought
     Found(u32, &'static [u8], u32, Option<u64>),
     // the next table in which that is sought, from a place on, and its place
     Searched(&'static [u8], u32, usize, Option<(u64, usize)>),

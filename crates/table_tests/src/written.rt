@@ -79,7 +79,7 @@ pub fn opened<S: Store>(
     TableCursor::open(alloc, source, &placed)
 }
 
-/// Returns what the newest entry of a user key up to a sequence put in such a table.
+/// Returns what the newest entry of a user key up to a sequence number put in such a table.
 pub fn value_in<S: Store>(
     alloc: Global,
     source: &mut Tables<Bytewise, S>,

@@ -78,7 +78,7 @@ EndLaw = (order : Order) (tables : List PlacedTable) (contents : List TableConte
     → IsTotalOrder order.cmp → IsAntisymmetric order.cmp → FitVersion order tables contents → IsFirstKey user sequence key → IsSearchedUpTo contents user sequence from
     → ((place : ℕ) (placed : PlacedTable) → from ≤ place → IsSearchedAt order.cmp key tables place placed → ⊥) → IsUnseen (joined (table_sources contents)) sequence user
 
--- ---- the memory tables in front
+-- ---- the memtables in front
 
 -- What the last log has, what the logs before it have, and the tables are searched in this turn,
 -- and are all entries.

@@ -1,4 +1,4 @@
--- What a compaction reads: the tables of a version, and no memory table (LevelDB's
+-- What a compaction reads: the tables of a version, and no memtable (LevelDB's
 -- db/version_set.cc, VersionSet::MakeInputIterator).
 use Rattle.std.specs.Prelude.{◌≡◌, ℕ, List, None, map}
 use Rattle.cache.specs.Tables.{table_at}
@@ -70,6 +70,6 @@ pub record IsMergeKept {K : Type 0} {g : _} (cmp : Cmp) (merge : Merge K (Source
   pub limits : IsMergeLimited cmp merge new → IsMergeLimited cmp merge old
   pub torn : (cut : Cut) → IsMergeTorn cmp merge new cut → IsMergeTorn cmp merge old cut
 
--- What a merge reads that reads no memory table is kept while the files of its tables are.
+-- What a merge reads that reads no memtable is kept while the files of its tables are.
 abbrev pub MergeIsKept : {K : Type 0} {g : _} → Cmp → Merge K (SourceCursor K g) → Type 0
 MergeIsKept cmp merge = (old new : Whole) → ReadsNoMemory cmp merge → KeepsFiles cmp (OneGoesOver merge.children.items) old.seen new.seen → IsMergeKept cmp merge old new

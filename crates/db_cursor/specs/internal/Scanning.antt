@@ -24,7 +24,7 @@ use Rattle.table.specs.Reading.{Reads, IsStill}
 abbrev pub has_pair : {K : Type 0} {g : _} → Scan K g → Bool
 has_pair scan = value_at_hand (λ merge. child_stands source_stands merge.children.items merge.current) scan.walk
 
--- two scans read the same memory tables, and have the same version
+-- two scans read the same memtables, and have the same version
 pub record ReadsAs {K : Type 0} {g : _} (old new : Scan K g) : Type 0 where
   pub generation : new.generation ≡ old.generation
   pub sealed : new.sealed ≡ old.sealed
@@ -75,8 +75,8 @@ MayBeIsKept cmp scan = (old new : Whole) (at : Walked) → KeepsScan cmp scan ol
 abbrev pub IntactScans : {K : Type 0} {g : _} → Cmp → Scan K g → Type 0
 IntactScans cmp scan = (whole : Whole) (at : Walked) → MayBeScan cmp scan whole at → ((cut : Cut) → IsScanTorn cmp scan whole cut → ⊥) → IsScan cmp scan whole at
 
--- What is written above a scan's sequence leaves what it reads, where files and what is kept of
--- them do.
+-- What is written above a scan's sequence number leaves what it reads, where files and what is kept
+-- of them do.
 abbrev pub WritesAreKept : Cmp → Type 0
 WritesAreKept cmp = (sequence : ℕ) (old new : Whole) (more : List Entry) → sequence ≤ old.memory.last
     → HasMoreEntries old.memory new.memory more → AllByRecursion (λ (entry : Entry). old.memory.last < entry.sequence) more

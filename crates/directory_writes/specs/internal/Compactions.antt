@@ -127,7 +127,7 @@ UnusedLaw = (w : TablesWritten) (edit : List Field) (tables : List PlacedTable)
 
 -- ---- behind the MANIFEST
 
--- A reader at a sequence that sees what one of the snapshots sees, sees the same.
+-- A reader at a sequence number that sees what one of the snapshots sees, sees the same.
 abbrev pub AreSeenAlike : List Entry → List ℕ → Directory → Directory → Type 0
 AreSeenAlike merged snapshots before after = (p : ℕ) (map : Contents) → SeesAsOne merged snapshots p → IsView (entries_in before) p map → IsView (entries_in after) p map
 

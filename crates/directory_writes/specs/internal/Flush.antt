@@ -1,4 +1,4 @@
--- What a flush of a sealed memory table does to the directory (LevelDB's db/db_impl.cc,
+-- What a flush of a sealed memtable does to the directory (LevelDB's db/db_impl.cc,
 -- DBImpl::CompactMemTable).
 use Rattle.std.specs.Prelude.{◌≡◌, ◌≢◌, ◌⊎◌, ◌<◌, ◌≤◌, ◌+◌, ◌^◌, ℕ, List, [], ◌∷◌, ◌++◌, map, All, IsTrue, Result, Ok, Err, IfOk, OnOk, string_bytes}
 use Rattle.std.specs.FinMap.{get}
@@ -127,7 +127,7 @@ Prepares order new next after plan entries old result = IfOk result (λ prepared
 
 -- ---- what the directory means
 
--- The files are a directory whose logs are sealed ones, which have the entries of the memory table,
+-- The files are a directory whose logs are sealed ones, which have the entries of the memtable,
 -- and the current one; the edit that is planned can be put behind its MANIFEST; no number from
 -- `next` on is taken, and the tables are the directory's.
 pub record CanFlush (order : Order) (files : Files) (next : ℕ) (plan : FlushPlan) (manifest : CurrentManifest) (entries : List Entry) (tables : List PlacedTable)

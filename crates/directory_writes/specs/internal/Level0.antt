@@ -1,4 +1,4 @@
--- A memory table as a table file of level 0 (LevelDB's db/builder.cc, BuildTable).
+-- A memtable as a table file of level 0 (LevelDB's db/builder.cc, BuildTable).
 use Rattle.std.specs.Prelude.{◌≡◌, ◌<◌, ◌^◌, ℕ, IsTrue, List, map}
 use Rattle.compact.specs.Rooms.{AreLarge}
 use Rattle.edits.specs.declared.field.TableFile.{TableFile}
@@ -12,7 +12,7 @@ use Rattle.recover.specs.Report.{IsLongTable, HasBytes}
 use Rattle.recover.specs.Tables.{TableContent, HasTable, internal_key}
 use Rattle.store.specs.Files.{Files, Facts}
 
--- each sequence fits seven bytes
+-- each sequence number fits seven bytes
 abbrev pub HaveSequences : List Entry → Type 0
 HaveSequences entries = (entry : Entry) → Among entries entry → entry.sequence < 2 ^ 56
 

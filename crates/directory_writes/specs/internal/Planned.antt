@@ -48,7 +48,7 @@ abbrev pub PlannedApartLaw : Type 0
 PlannedApartLaw = (order : Order) (files : Files) (deep : List ℕ → Bool) (plan : JobPlan) (d : Directory) (inputs rest : List TableContent)
     → IsConsistent order files d → IsPlanned order deep plan d.tables inputs rest → AreNewerOrDeep (tabled inputs) (tabled rest ++ logged d.logs) deep
 
--- What is merged of such entries has a sequence of its own for each entry of a key.
+-- What is merged of such entries has a sequence number of its own for each entry of a key.
 abbrev pub OwnSequencesLaw : Type 0
 OwnSequencesLaw = (entries : List Entry) (merged : List InternalEntry) → AreDistinct entries
     → ((entry : Entry) → Among (map entry_of merged) entry → Among entries entry) → HaveOwnSequences merged

@@ -16,8 +16,8 @@ use Rattle.engine.specs.internal.Accounted.{AreAccounted}
 use Rattle.machine.specs.Machine.{Machine, after_batch, current, entry_count, operation_weight, weight}
 use Rattle.ikey.specs.Views.{Contents, IsView}
 
--- The directory is empty or consistent, and stands for this map, with this many sequences used. Its
--- entries are some of so many, which weigh so much.
+-- The directory is empty or consistent, and stands for this map, with this many sequence numbers
+-- used. Its entries are some of so many, which weigh so much.
 pub record Means (order : Order) (files : Files) (map : Contents) (used count weight : ℕ) : Type 0 where
   pub entries : List Entry
   pub spelled : IsDirectory order files entries used

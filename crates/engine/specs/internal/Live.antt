@@ -29,7 +29,7 @@ AreLive Is kept live = (id : ℕ) → IsBoth Is (kept_at kept id) (lookup (nat_e
 
 -- ---- snapshots
 
--- The entries up to this sequence are what the machine has after so many batches.
+-- The entries up to this sequence number are what the machine has after so many batches.
 abbrev pub IsSnapshot : List Entry → ℕ → Machine → ℕ → ℕ → Type 0
 IsSnapshot entries last m sequence count =
     (count ≤ length m.batches) × (sequence ≤ last) × IsView entries sequence (view_at m count)

@@ -64,9 +64,9 @@ KeepsTables old new = (number : ℕ)
     → (get new (name_of (Table number)) ≡ get old (name_of (Table number))) × (get new (name_of (OldTable number)) ≡ get old (name_of (OldTable number)))
 
 -- The operations are put behind the log of this name, which ends at `end`, as a batch behind `used`
--- sequences; or, where the device fails, none of them or all of them are there for the next open.
--- Nothing else changes: no other part of the directory, nor where its MANIFEST ends, nor which
--- numbers are free.
+-- sequence numbers; or, where the device fails, none of them or all of them are there for the next
+-- open. Nothing else changes: no other part of the directory, nor where its MANIFEST ends, nor
+-- which numbers are free.
 pub record Logs (order : Order) (old new : Facts) (log : ℕ) (name : List ℕ) (end used : ℕ) (operations : List Operation) (result : Result ℕ LogError) : Type 0 where
   pub faithful : IsTrue new.faithful → IsTrue old.faithful
   pub failures : old.failures ≤ new.failures

@@ -25,7 +25,7 @@ pub enum Left {
     // A check finds the directory consistent, with these tables: the level and the number of each,
     // and how many entries it has.
     Tables(&'static [(u32, u64, u64)]),
-    // A check finds that this is the last sequence used.
+    // A check finds that this is the last sequence number used.
     LastSequence(u64),
     // A check refuses the directory so.
     Refused(DbError),

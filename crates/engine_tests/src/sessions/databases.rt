@@ -7,7 +7,7 @@ use engine::Mode::New;
 use engine::{Db, Ids, OpenError, Progress};
 use std::test::Fail;
 
-// Each is the least of its range, so that a memory table is sealed with its first entry.
+// Each is the least of its range, so that a memtable is sealed with its first entry.
 const LEAST: Sizes = [1, 1, 1, 1, 1, 1];
 
 #[test]

@@ -4,11 +4,11 @@ use super::*;
 use std::test::Fail;
 
 // The MANIFEST of a database of no entries: its order is Bytewise, its log 2, its next file 3 and
-// its last sequence 0.
+// its last sequence number 0.
 const FIRST_MANIFEST: &[u8] =
     b"\x53\x26\xfe\x5b\x22\x00\x01\x01\x1aleveldb.BytewiseComparator\x02\x02\x03\x03\x04\x00";
 
-// Put `a` = `1` at sequence 1.
+// Put `a` = `1` at sequence number 1.
 const ONE_PUT: &[u8] =
     b"\xe9\x9f\x78\x19\x11\x00\x01\x01\x00\x00\x00\x00\x00\x00\x00\x01\x00\x00\x00\x01\x01a\x011";
 
@@ -62,7 +62,7 @@ pub const OPENINGS: &[Opening] = &[
     (BESIDE_AN_EDIT, ("MANIFEST-000001", b"\x22Q\x8c% \x00\x01\x01\x1aleveldb.BytewiseComparator\x03\x03\x04\x00"), ("open", "refused Corrupt(Manifest, Missing)")),
     // no next file number
     (BESIDE_AN_EDIT, ("MANIFEST-000001", b"\x1a\x81\x08\x95 \x00\x01\x01\x1aleveldb.BytewiseComparator\x02\x02\x04\x00"), ("open", "refused Corrupt(Manifest, Missing)")),
-    // no last sequence
+    // no last sequence number
     (BESIDE_AN_EDIT, ("MANIFEST-000001", b"\x10/j* \x00\x01\x01\x1aleveldb.BytewiseComparator\x02\x02\x03\x03"), ("open", "refused Corrupt(Manifest, Missing)")),
     // a tag that there is not
     (BESIDE_AN_EDIT, ("MANIFEST-000001", b"\xe1\x944\xb3#\x00\x01\x01\x1aleveldb.BytewiseComparator\x02\x02\x03\x03\x04\x00\x08"), ("open", "refused Corrupt(Manifest, Kind)")),
@@ -81,7 +81,7 @@ pub const OPENINGS: &[Opening] = &[
     (FIRST, ("MANIFEST-000001", b""), ("open", "refused Corrupt(Manifest, Missing)")),
     (FIRST, ("MANIFEST-000001", b"\x54\x26\xfe\x5b\x01\x00\x01\x01"), ("open", "refused Corrupt(Manifest, Checksum)")),
     (FIRST, ("000002.log", b"\xe8\x9f\x78\x19\x11\x00\x01\x01\x00\x00\x00\x00\x00\x00\x00\x01\x00\x00\x00\x01\x01a\x011"), ("open", "refused Corrupt(Log, Checksum)")),
-    // the put at sequence 1 twice
+    // the put at sequence number 1 twice
     (FIRST, ("000002.log", b"\xe9\x9f\x78\x19\x11\x00\x01\x01\x00\x00\x00\x00\x00\x00\x00\x01\x00\x00\x00\x01\x01a\x011\xe9\x9f\x78\x19\x11\x00\x01\x01\x00\x00\x00\x00\x00\x00\x00\x01\x00\x00\x00\x01\x01a\x011"), ("open", "refused Corrupt(Log, Order)")),
     // a record that is no batch
     (FIRST, ("000002.log", b"\xbb\x8f\xe9\x0e\x08\x00\x01no batch"), ("open", "refused Corrupt(Log, Length)")),

@@ -135,7 +135,7 @@ pub const BESIDE_A_COMPRESSED_BLOCK: &[Line<'static>] = &[
     ("next 1", "end"),
 ];
 
-// Its edit: log number 3, next file number 6, last sequence 2; the table 5 of level 6.
+// Its edit: log number 3, next file number 6, last sequence number 2; the table 5 of level 6.
 #[rattlefmt::skip]
 const FILTERED_MANIFEST: &[u8] = b"\x8f\xdf.\xd5\x1f\x00\x01\x02\x03\x03\x06\x04\x02\x07\x06\x05\xdc\x01\x09a\x01\x01\x00\x00\x00\x00\x00\x00\x09b\x01\x02\x00\x00\x00\x00\x00\x00";
 

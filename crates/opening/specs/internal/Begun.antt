@@ -27,7 +27,7 @@ use Rattle.opening.specs.internal.Knowing.{HasLogs, KnowsDirectory}
 use Rattle.opening.specs.internal.Opening.{AllowsFiles}
 
 -- Over any store: the log is an empty one under its name, the tables are in order, and the
--- sequences fit.
+-- sequence numbers fit.
 pub record IsBegun {K : Type 0} (order : Order) (begun : Begun K) : Type 0 where
   pub named : string_bytes begun.log.name ≡ name_of (Log begun.log.number)
   pub empty : begun.log.end ≡ 0
@@ -36,8 +36,8 @@ pub record IsBegun {K : Type 0} (order : Order) (begun : Begun K) : Type 0 where
   -- nothing is read beside what the logs have
   pub written : begun.memory.current.inserts ≡ []
 
--- What a directory says is in memory: the entries of its logs, the last sequence and the tables. A
--- record can be put behind the new log.
+-- What a directory says is in memory: the entries of its logs, the last sequence number and the
+-- tables. A record can be put behind the new log.
 pub record HasBegun {K : Type 0} (order : Order) (files : Files) (begun : Begun K) (tables : List TableContent) (entries : List Entry) (used : ℕ) : Type 0 where
   pub inserts : logged_in begun.memory ≡ entries
   pub last : begun.memory.last ≡ used

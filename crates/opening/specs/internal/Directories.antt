@@ -8,7 +8,7 @@ use Rattle.recover.specs.Logs.{logged}
 use Rattle.recover.specs.Tables.{TableContent}
 
 -- The files are a directory that is empty or consistent, with these tables, these entries in its
--- logs, and these used sequences.
+-- logs, and these used sequence numbers.
 abbrev pub IsDirectoryOf : Order → Files → List TableContent → List Entry → ℕ → Type 0
 IsDirectoryOf order files tables entries used =
     (IsEmpty files × (tables ≡ []) × (entries ≡ []) × (used ≡ 0))

@@ -12,7 +12,7 @@ use Rattle.recover.specs.Numbers.{IsFree}
 use Rattle.store.specs.Files.{Files}
 use Rattle.opening.specs.declared.directory.DirectoryState.{DirectoryState}
 
--- The last log of the directory has this number, and the entries of the current memory table; those
+-- The last log of the directory has this number, and the entries of the current memtable; those
 -- in front of it have the sealed one's. Where no table is sealed there are none in front, and one
 -- that is sealed has entries.
 pub record HasLogs (d : Directory) (log : ℕ) (memory : Memories) : Type 0 where

@@ -1,4 +1,4 @@
--- What a reader answers from: the map of a directory at its last sequence.
+-- What a reader answers from: the map of a directory at its last sequence number.
 use Rattle.std.specs.Prelude.{◌≡◌, ◌++◌, List, IsTrue}
 use Rattle.ikey.specs.Orders.{Order}
 use Rattle.ikey.specs.Sources.{IsNewerThan, joined}
@@ -19,7 +19,7 @@ use Rattle.db_cursor.specs.Whole.{Whole}
 
 -- The files are a consistent directory, whose tables these are, and whose logs' entries are in
 -- memory; what is kept of its tables is right; and this is what all its entries put, up to the last
--- sequence used.
+-- sequence number used.
 pub record Shows (order : Order) (whole : Whole) (tables : List PlacedTable) (map : Contents) : Type 0 where
   pub directory : Directory
   pub consistent : IsConsistent order whole.seen.facts.files directory
@@ -32,7 +32,7 @@ pub record Shows (order : Order) (whole : Whole) (tables : List PlacedTable) (ma
 
 -- As far as their blocks tell, the files may be tables of these, than which what is in memory is
 -- newer; what is kept of them is right; and this is what the entries that they may have, and those
--- in memory, put up to the last sequence used.
+-- in memory, put up to the last sequence number used.
 pub record MayShow (order : Order) (whole : Whole) (tables : List PlacedTable) (map : Contents) : Type 0 where
   pub contents : List TableContent
   pub sound : IsSound order.cmp whole.seen

@@ -121,7 +121,7 @@ with_content new (content ∷ contents) = if is_before new.placed content.placed
 
 -- The layout is that of a flush: what was logged before the current log is in a new table of level
 -- 0 instead, whose number is above those of all tables, and the log number is the current log's.
--- All used sequences are recorded.
+-- All used sequence numbers are recorded.
 pub record IsFlush (d : Directory) (next : Layout) (content : TableContent) (sealed : List LogContent) (current : LogContent) : Type 0 where
   pub logs : d.logs ≡ sealed ++ current ∷ []
   pub entries : SameEntries content.entries (logged sealed)
@@ -147,7 +147,7 @@ FlushLaw = (order : Order) (old new : Files) (d : Directory) (edits : List (List
 -- ---- a compaction
 
 -- The layout is that of a compaction: in place of the inputs are outputs of a level from 1 on, in
--- order, with none but entries of the inputs. All used sequences are recorded.
+-- order, with none but entries of the inputs. All used sequence numbers are recorded.
 pub record IsCompaction (order : Order) (d : Directory) (next : Layout) (inputs rest outputs contents : List TableContent) (level : ℕ) : Type 0 where
   pub old_tables : AreParted d.tables inputs rest
   pub replaceable : MayReplace order inputs rest level

@@ -22,7 +22,8 @@ use Rattle.recover.specs.Tables.{table_at, HasTable}
 
 -- ---- keys
 
--- an entry of this key and this sequence: where it comes among others doesn't depend on its value
+-- an entry of this key and this sequence number: where it comes among others doesn't depend on its
+-- value
 abbrev pub stamp : List ℕ → ℕ → Entry
 stamp key sequence = record { key = key; sequence = sequence; value = None }
 

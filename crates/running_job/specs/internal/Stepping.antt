@@ -22,7 +22,7 @@ use Rattle.directory_writes.specs.internal.JobWrites.{KeepsOtherTables}
 
 -- ---- over any store
 
--- It writes tables of numbers that are the job's, and no others; the memory tables stay, and what
+-- It writes tables of numbers that are the job's, and no others; the memtables stay, and what
 -- it keeps anew of tables is of those that its cursor goes over, which are those of before.
 pub record StepTouches {K : Type 0} {g : _} (old new : Whole) (next more : ℕ) (before after : OpenJob K g) : Type 0 where
   pub writes : WritesTables old.seen.facts new.seen.facts (IsMineUpTo before.job.outputs next more)
