@@ -67,7 +67,7 @@ pub fn encoded(
     Ok(out)
 }
 
-// Writes a batch where nothing is written yet, or a beginning of it where memory runs out.
+// Writes a batch into an empty vector, or a beginning of it if memory runs out.
 fn put_batch(out: &mut Vec<u8>, sequence: u64, operations: &[Operation]) -> Result<(), AllocError>
     requires empty { out.old.items ≡ [] }
     requires first { sequence < 2 ^ 56 }
@@ -81,7 +81,7 @@ fn put_batch(out: &mut Vec<u8>, sequence: u64, operations: &[Operation]) -> Resu
     put_operations(out, operations)
 }
 
-// Writes the operations at the end, or a beginning of them where memory runs out.
+// Writes the operations at the end, or a beginning of them if memory runs out.
 fn put_operations(out: &mut Vec<u8>, operations: &[Operation]) -> Result<(), AllocError>
     requires { All CanBeEncoded operations.now }
     ensures { OnOk result ((bytes : List ℕ) × AreOperations bytes operations.now × (out.new.items ≡ out.old.items ++ bytes)) }

@@ -47,7 +47,7 @@ pub fn options() -> Option<Options> {
     Options::new(4_194_304, 4096, 2_097_152, LEVEL0_FILES, 10_485_760, 2048)
 }
 
-/// Prints the line of a workload, or says why it was refused, and answers the exit status.
+/// Prints the line of a workload, or says why it failed, and answers the exit status.
 pub fn report<R: Print + Eprint>(
     rt: &R,
     name: &str,

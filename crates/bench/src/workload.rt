@@ -1,4 +1,4 @@
-// What can be measured, by the names of LevelDB's db_bench where it has one.
+// What can be measured, by the names of LevelDB's db_bench if it has one.
 
 #[derive(Clone, Copy)]
 pub enum Workload {

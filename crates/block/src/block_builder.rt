@@ -88,7 +88,7 @@ impl<O: EntryOrder> BlockBuilder<O> {
     }
 
     /// Adds an entry, whose key is above the last one, at the end. It shares as much of the key
-    /// before as it can, and nothing where it is a restart. An `Err` changes nothing.
+    /// before as it can, and nothing if it is a restart point. An `Err` changes nothing.
     pub fn add(&mut self, key: &[u8], value: &[u8]) -> Result<(), AllocError>
         requires rises { ForSome (last_key self.old.pairs) (λ last. O.below last key.now) }
         requires room { written_length self.old + length key.now + length value.now ≤ 2 ^ 31 }
@@ -151,8 +151,8 @@ impl<O: EntryOrder> BlockBuilder<O> {
     }
 }
 
-// Adds an entry, and its offset to the restarts where it is one and not the first. An `Err` changes
-// nothing.
+// Adds an entry, and its offset to the restart points if it is one and not the first. An `Err`
+// changes nothing.
 fn push_entry(
     out: &mut Vec<u8>,
     restarts: &mut Vec<u32>,

@@ -26,7 +26,7 @@ pub fn check_entries<O: EntryOrder>(
         × (last_key_from [] pairs ≡ last.items)) }
     ensures refused { IfErr result (λ e. RefusesOnly e ((pairs : List Pair) (list : List ℕ) → restarts.now ≡ flat_map fixed32 list → IsBody pairs list body.now → AreAbove O.below None pairs → ⊥)) }
 {
-    // Where there is no entry, the restart 0 stands all the same.
+    // If there is no entry, the restart point 0 stands all the same.
     if body.is_empty() {
         return match restarts {
             [0, 0, 0, 0] => Ok(Vec::new(alloc)),

@@ -73,7 +73,7 @@ fn split_front(bytes: &[u8], len: usize) -> Option<(&[u8], &[u8])>
     Some(bytes.split_at(len))
 }
 
-/// Writes an entry at the end, or a beginning of it where memory runs out.
+/// Writes an entry at the end, or a beginning of it if memory runs out.
 pub fn put_entry(
     out: &mut Vec<u8>,
     shared: usize,
@@ -111,7 +111,7 @@ pub fn shared_length(a: &[u8], b: &[u8]) -> usize
     shared_from(a, b, shared)
 }
 
-// The numbers that the eight bytes from `start` on spell in each, where both have so many.
+// The numbers that the eight bytes from `start` on spell in each, if both have so many.
 #[inline(always)]
 fn words_at(a: &[u8], b: &[u8], start: usize) -> Option<(u64, u64)>
     ensures first { IfSome result (λ words. (start + 8 ≤ length a.now) × (take 8 (drop start a.now) ≡ fixed64 words.0)) }
@@ -139,7 +139,7 @@ fn shared_in_words(x: u64, y: u64) -> usize
     ((x ^ y).trailing_zeros() / 8) as usize
 }
 
-// How many bytes are the same where the first `start` are: byte by byte.
+// How many bytes are the same if the first `start` are: byte by byte.
 fn shared_from(a: &[u8], b: &[u8], start: usize) -> usize
     requires in_a { start ≤ length a.now }
     requires in_b { start ≤ length b.now }

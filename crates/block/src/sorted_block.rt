@@ -117,7 +117,7 @@ impl<O: EntryOrder> Block<O> {
         is_at_most::<O>(last, bounds.most)
     }
 
-    // The block, and its last key, which has no bytes where there is no entry.
+    // The block, and its last key, which has no bytes if there is no entry.
     fn open_with_last(alloc: Global, bytes: Vec<u8>) -> Result<(Self, Vec<u8>), ReadError>
         ensures found { IfOk result (λ opened. IsBlock O.below bytes.items opened.0.pairs) }
         ensures last { IfOk result (λ opened. last_key_from [] opened.0.pairs ≡ opened.1.items) }
@@ -160,7 +160,7 @@ impl<O: EntryOrder> Block<O> {
     }
 }
 
-// Whether a key is above the bound, where there is one.
+// Whether a key is above the bound, if there is one.
 fn is_above<O: EntryOrder>(floor: Option<&[u8]>, key: &[u8]) -> bool
     ensures { MatchBool result (ForSome (option_copied floor.entry) (λ (bound : List ℕ). O.below bound key.now))
         (ForSome (option_copied floor.entry) (λ (bound : List ℕ). O.below bound key.now) → ⊥) }

@@ -111,7 +111,7 @@ impl<K: KeyOrder> BlockCache<K> {
         ensures answer { MatchOption (kept_at self.old.blocks file index)
             (R.reads reader.now source.old source.new index (answer_of result))
             (λ pairs. Hits pairs (answer_of result) × (source.new ≡ source.old)) }
-        // What is kept was kept before, or is what was answered. So a refusal isn't kept.
+        // What is kept was kept before, or is what was answered. So an error isn't kept.
         ensures kept { (kept : KeptBlock) → Contains self.new.blocks kept → Contains self.old.blocks kept ⊎ IsAnswered kept file index (answer_of result) }
         // The block goes first, so that the last one is dropped if there are too many.
         ensures order { MatchOption (kept_at self.old.blocks file index)
@@ -183,7 +183,7 @@ impl<K: KeyOrder> BlockCache<K> {
         }
     }
 
-    // Keeps the block, where there is memory for it, and the memory of the one that goes for it.
+    // Keeps the block, if there is memory for it, and the memory of the one that goes for it.
     fn keep(&mut self, file: u64, index: usize, block: &Rc<Block<Internal<K>>>)
         ensures kept { (kept : KeptBlock) → Contains self.new.blocks kept → Contains self.old.blocks kept ⊎ IsOf kept file index block.now.value.pairs }
         ensures order { IsBlockPut file index block.now.value.pairs self.old.capacity self.old.blocks self.new.blocks }
@@ -216,8 +216,7 @@ fn find_in<K: KeyOrder>(
     Ok(Some(block))
 }
 
-// Keeps the block, where there is memory for it, and answers the memory of the one that goes for
-// it.
+// Keeps the block, if there is memory for it, and answers the memory of the one that goes for it.
 fn keep_in<K: KeyOrder>(
     blocks: &mut LruCache<Slot, Rc<Block<Internal<K>>>>,
     file: u64,

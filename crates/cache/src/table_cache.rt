@@ -94,7 +94,7 @@ impl<K: KeyOrder> TableCache<K> {
         ensures answer { MatchOption (kept_table_at self.old.tables number)
             (OpensTable K.cmp (S.facts store.old) (S.facts store.new) number (table_answer_of result))
             (λ table. HitsTable table (table_answer_of result) × (store.new ≡ store.old)) }
-        // What is kept was kept before, or is what was answered. So a refusal isn't kept.
+        // What is kept was kept before, or is what was answered. So an error isn't kept.
         ensures kept { (kept : KeptTable) → Contains self.new.tables kept → Contains self.old.tables kept ⊎ IsAnsweredTable kept number (table_answer_of result) }
         // The table goes first, so that the last one is dropped if there are too many.
         ensures order { MatchOption (kept_table_at self.old.tables number)
@@ -109,7 +109,7 @@ impl<K: KeyOrder> TableCache<K> {
             → IsTrue (S.facts store.new).faithful → HoldsTables K.cmp content (S.facts store.new) self.new.tables }
         ensures stood { OnOk result ((S.facts store.new).failures ≡ (S.facts store.old).failures) }
         ensures told { IfErr (table_answer_of result) (λ e. RefusesTable e (S.facts store.old) (S.facts store.new) number (IsFrameDamaged K.cmp) IsFrameUnsupported) }
-        // A frame is refused only where one of its blocks is too long.
+        // A frame is refused only if one of its blocks is too long.
         ensures refused { IfErr (table_answer_of result) (λ e. RefusesTable e (S.facts store.old) (S.facts store.new) number
             (λ file. (frame : Frame) → IsFrame K.cmp file frame → ⊥) (λ file. (frame : Frame) (is : IsFrame K.cmp file frame) → IsOversized K.cmp file frame is)) }
         ensures capacity { self.new.capacity ≡ self.old.capacity }
@@ -117,7 +117,7 @@ impl<K: KeyOrder> TableCache<K> {
         self.fetch(alloc, store, number)
     }
 
-    /// Closes the table of this number, where it is kept: its file is to be removed (LevelDB's
+    /// Closes the table of this number, if it is kept: its file must be removed (LevelDB's
     /// `TableCache::Evict`).
     pub fn evict(&mut self, number: u64)
         ensures gone { kept_table_at self.new.tables number ≡ None }
@@ -130,8 +130,8 @@ impl<K: KeyOrder> TableCache<K> {
         evict_from(tables, number);
     }
 
-    // The table that is kept or, where none is, one that is opened, and kept where there is memory
-    // to keep it.
+    // The table that is kept or, if none is, one that is opened, and kept if there is memory to
+    // keep it.
     fn fetch<S: Store>(
         &mut self,
         alloc: Global,
@@ -170,7 +170,7 @@ impl<K: KeyOrder> TableCache<K> {
         find_in(tables, number)
     }
 
-    // Keeps the table, where there is memory for it.
+    // Keeps the table, if there is memory for it.
     fn keep(&mut self, number: u64, table: &Rc<Table<K>>)
         ensures kept { (kept : KeptTable) → Contains self.new.tables kept → Contains self.old.tables kept ⊎ IsKeptOf kept number table.now.value }
         ensures order { IsTablePut number table.now.value self.old.capacity self.old.tables self.new.tables }
@@ -201,7 +201,7 @@ fn find_in<K: KeyOrder>(
     Ok(Some(table))
 }
 
-// Keeps the table, where there is memory for it.
+// Keeps the table, if there is memory for it.
 fn keep_in<K: KeyOrder>(tables: &mut LruCache<u64, Rc<Table<K>>>, number: u64, table: &Rc<Table<K>>)
     ensures kept { (kept : KeptTable) → Contains (tables_in tables.new.entries) kept → Contains (tables_in tables.old.entries) kept ⊎ IsKeptOf kept number table.now.value }
     ensures order { IsTablePut number table.now.value tables.old.cap (tables_in tables.old.entries) (tables_in tables.new.entries) }

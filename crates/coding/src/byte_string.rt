@@ -71,7 +71,7 @@ impl Bytes {
     }
 }
 
-/// Byte strings are equal where they have the same bytes in the same order.
+/// Byte strings are equal if they have the same bytes in the same order.
 impl PartialEq for Bytes {
     ghost eq = { pointwise nat_eq };
 

@@ -7,7 +7,7 @@ ghost use Rattle.coding.specs.Varint.{IsString};
 use crate::varint::{get_varint32, put_varint32};
 use std::alloc::AllocError;
 
-/// Appends a length-prefixed string. Refused only where there is no memory for it.
+/// Appends a length-prefixed string. It fails only out of memory.
 pub fn put_string(out: &mut Vec<u8>, text: &[u8]) -> Result<(), AllocError>
     requires { length text.now < 2 ^ 32 }
     ensures ok { OnOk result ((bytes : List ℕ) × IsString bytes text.now × (out.new.items ≡ out.old.items ++ bytes)) }

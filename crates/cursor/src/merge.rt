@@ -30,7 +30,7 @@ pub struct Merge<K: KeyOrder, C> {
     children: Vec<Child<C>>,
     // the index of the child that stands on the merge's entry, if the merge stands on one
     current: Option<usize>,
-    // the key of that entry, where a child is astray
+    // the key of that entry, if a child is astray
     target: Vec<u8>,
     order: PhantomData<K>,
 }
@@ -61,8 +61,8 @@ impl<K: KeyOrder, C: Drop> Merge<K, C> {
     }
 }
 
-/// Proves that where each cursor of a new merge stands nowhere in a list, the merge stands nowhere
-/// in the lists' union.
+/// Proves that if each cursor of a new merge stands nowhere in a list, the merge stands nowhere in
+/// the lists' union.
 pub fn merge_begins<K: KeyOrder, S, C: Cursor<K, S>>(merge: &Merge<K, C>, source: &S)
     requires nowhere { merge.now.current ≡ None }
     requires astray { AllByRecursion (λ child. child.side ≡ Side.Astray) merge.now.children.items }
@@ -219,7 +219,7 @@ fn jump<K: KeyOrder, S, C: Cursor<K, S>>(
     }
 }
 
-// The index of the child that stands on the merge's entry, where it does.
+// The index of the child that stands on the merge's entry, if it does.
 fn standing<K: KeyOrder, S, C: Cursor<K, S>>(merge: &Merge<K, C>) -> Option<usize>
     ensures { MatchOption result (child_stands C.stands merge.now.children.items merge.now.current ≡ false)
         (λ index. (merge.now.current ≡ Some index) × (child_stands C.stands merge.now.children.items (Some index) ≡ true)) }

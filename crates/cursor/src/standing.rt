@@ -24,7 +24,7 @@ pub enum Position {
     Here,
     /// On the last entry of a lower user key, or nowhere if there is none. The value is kept.
     Behind,
-    /// Anywhere: a move was refused.
+    /// Anywhere: a move failed.
     Astray,
 }
 

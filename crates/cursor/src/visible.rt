@@ -62,8 +62,8 @@ impl<K: KeyOrder, C> Visible<K, C> {
         }
     }
 
-    /// Proves that where the cursor beneath stands anywhere in a list, a new walk stands nowhere in
-    /// the list of what is visible there.
+    /// Proves that if the cursor beneath stands anywhere in a list, a new iteration stands nowhere
+    /// in the list of what is visible there.
     pub fn begins<S>(&self, source: &S)
     where
         C: Cursor<K, S>,
@@ -253,7 +253,7 @@ impl<K: KeyOrder, C> Visible<K, C> {
         }
     }
 
-    // Finds the first pair from the cursor's entry on, past the user key at hand where the walk
+    // Finds the first pair from the cursor's entry on, past the user key at hand if the iteration
     // stands on one.
     fn go_on<S>(&mut self, alloc: Global, source: &mut S, past: bool) -> Result<(), DbError>
     where

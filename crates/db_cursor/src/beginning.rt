@@ -22,8 +22,8 @@ use std::alloc::{AllocError, Global};
 use std::rc::Rc;
 use versions::Version;
 
-/// Adds a cursor over the current memtable, and one over the sealed one, where there is one, up
-/// to a sequence number.
+/// Adds a cursor over the current memtable, and one over the sealed one, if there is one, up to a
+/// sequence number.
 pub fn add_memory<K: KeyOrder>(
     alloc: Global,
     cursors: &mut Vec<SourceCursor<K>>,
@@ -102,7 +102,7 @@ pub fn add_levels<K: KeyOrder>(
     Ok(())
 }
 
-// Adds a cursor over the tables from one index to another, where there are any.
+// Adds a cursor over the tables from one index to another, if there are any.
 fn add_row<K: KeyOrder>(
     cursors: &mut Vec<SourceCursor<K>>,
     version: &Rc<Version<K>>,

@@ -205,7 +205,7 @@ impl<K: KeyOrder> Scan<K> {
         let _ = self;
     }
 
-    /// Proves that where no block is torn, that is the list that they have.
+    /// Proves that if no block is torn, that is the list that they have.
     pub fn is_intact(&self)
         ensures { IntactScans K.cmp self.now }
     {

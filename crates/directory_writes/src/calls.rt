@@ -1,4 +1,4 @@
-//! Calls of the store, with the database's refusals.
+//! Calls of the store, with the database's errors.
 
 ghost use Rattle.std.specs.Prelude.{◌≡◌, ◌⊎◌, ℕ, List, [], None, IfErr, IsTrue, OnOk};
 ghost use Rattle.std.specs.FinMap.{insert};

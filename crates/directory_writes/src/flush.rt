@@ -178,7 +178,7 @@ fn prepare<K: KeyOrder, S: Store>(
     })
 }
 
-// The version after an edit. Corrupt, where it has no room for the edit's tables.
+// The version after an edit. Corrupt: it has no room for the edit's tables.
 pub(crate) fn version_after<K: KeyOrder>(
     alloc: Global,
     version: &Version<K>,
@@ -203,7 +203,7 @@ pub(crate) fn version_after<K: KeyOrder>(
     Ok(shared)
 }
 
-// Where the store fails, the edit is in doubt. Out of memory nothing of it is there.
+// If the store fails, the edit is in doubt. Out of memory nothing of it is there.
 pub(crate) fn edit_refusal(error: DbError) -> FlushError
     ensures { result ≡ edit_refusal error }
 {

@@ -43,7 +43,7 @@ pub fn flush_edit(
     Ok(edit)
 }
 
-// Gives the previous log up, where there is one.
+// Drops the previous log, if there is one.
 fn push_previous(edit: &mut Edit, number: u64) -> Result<(), AllocError>
     ensures { OnOk result (edit.new ≡ edit.old ++ previous_gone number) }
 {

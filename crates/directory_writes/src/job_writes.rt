@@ -13,7 +13,7 @@ pub fn free_number_law()
     ensures { FreeNumberLaw }
 {}
 
-/// Proves that the same of each directory that differs in tables alone.
+/// Proves the same of each directory that differs in tables alone.
 pub fn job_writes_each_law()
     ensures { JobWritesEachLaw }
 {}

@@ -81,7 +81,7 @@ pub fn write_level0<K: KeyOrder, S: Store>(
     })
 }
 
-// The internal key of the entry at a place. Unsupported, where it is longer than a block may be.
+// The internal key of the entry at a place. Unsupported: it is longer than a block may be.
 fn key_at<K: KeyOrder>(alloc: Global, memory: &MemTable<K>, node: Node) -> Result<Bytes, DbError>
     requires place { IsPlace memory.now.inserts node }
     requires sequences { HaveSequences memory.now.inserts }

@@ -64,7 +64,7 @@ pub fn remove_files<S: Store, L: LiveTables>(
         (IsLiveAmong (S.facts store.old).files numbers.now (L.has live.now)) result }
     ensures tidy { IsTrue (S.facts store.new).faithful → IfOk result (λ removal. IsTrue removal.complete → (file : FileNameValue) → IsFileName file
         → contains_key (S.facts store.new).files (name_of file) ≡ true → IsLiveAmong (S.facts store.new).files numbers.now (L.has live.now) file) }
-    // Newer files wait where an older one couldn't be removed.
+    // Newer files wait if an older one couldn't be removed.
     ensures few { OnOk result (LeavesFew (S.facts store.old) (S.facts store.new)
         (IsLiveAmong (S.facts store.old).files numbers.now (L.has live.now))
         (HasOlderToo (S.facts store.old).files) (λ name. contains_key (S.facts store.old).files name ≡ true)) }

@@ -40,7 +40,7 @@ pub fn fold_edits(alloc: Global, comparator: &[u8], edits: &[Edit]) -> Result<La
     // Edits that are refused leave no layout, or are of another order.
     ensures refused { IfErr result (λ e. RefusesFor e ((layout : LayoutValue) → IsLayout comparator.now edits.now layout → ⊥)
         (AreOfOther comparator.now (fields_of edits.now))) }
-    // Where they are of another order, it is for that.
+    // If they are of another order, it is for that.
     ensures other { IfErr result (λ e. RefusesFor e (AreOfOrder comparator.now (fields_of edits.now)) (AreOfOther comparator.now (fields_of edits.now))) }
 {
     if are_of_other(comparator, edits) {

@@ -88,7 +88,7 @@ fn digits_in_front(name: &[u8]) -> usize
     name.len()
 }
 
-// The number that the digits are, where they are as many as its name has.
+// The number that the digits are, if they are as many as its name has.
 fn number_of(digits: &[u8]) -> Option<u64>
     ensures range { IfSome result (λ n. n < 2 ^ 64) }
     ensures value { MatchOption result ((n : ℕ) → IsNumbered n → digits.now ≡ padded n → ⊥) (λ n. IsNumbered n × (digits.now ≡ padded n)) }

@@ -39,7 +39,7 @@ pub fn snapshot_edit(
         → edit ≡ snapshot_fields comparator.now new) }
     ensures folds { IfOk result (λ edit. (new : LayoutValue) → IsRenumbered log_number previous_log_number next_file_number last_sequence layout.now new
         → IsLayout comparator.now (edit ∷ []) new) }
-    // What is read again has no table past the reading limit where the layout has none.
+    // What is read again has no table past the reading limit if the layout has none.
     ensures limit { IfOk result (λ edit. AllByRecursion IsBelowLimit layout.now.tables.items → HasPastLimit edit → ⊥) }
 {
     let mut edit = Edit::new(alloc);
@@ -95,7 +95,7 @@ fn push_tables(alloc: Global, edit: &mut Edit, tables: &[PlacedTable]) -> Result
     Ok(())
 }
 
-// Adds the previous log's number, where there is such a log.
+// Adds the previous log's number, if there is such a log.
 fn push_previous(edit: &mut Edit, number: u64) -> Result<(), AllocError>
     ensures { OnOk result (edit.new ≡ edit.old ++ previous_fields number) }
 {

@@ -130,14 +130,14 @@ pub fn placed_at(alloc: Global, bytes: &[u8]) -> Result<(PlacedTable, &[u8]), Re
     Ok((PlacedTable { level, table }, rest))
 }
 
-/// Writes a number at the end, or nothing where memory runs out.
+/// Writes a number at the end, or nothing if memory runs out.
 pub fn put_long(out: &mut Vec<u8>, n: u64) -> Result<(), AllocError>
     ensures { OnOk result (Appends IsLong out.old.items out.new.items n) }
 {
     put_varint64(out, n)
 }
 
-/// Writes a level at the end, or nothing where memory runs out.
+/// Writes a level at the end, or nothing if memory runs out.
 pub fn put_level(out: &mut Vec<u8>, level: u32) -> Result<(), AllocError>
     requires { level < 7 }
     ensures { OnOk result (Appends IsLevel out.old.items out.new.items level) }
@@ -145,7 +145,7 @@ pub fn put_level(out: &mut Vec<u8>, level: u32) -> Result<(), AllocError>
     put_varint32(out, level)
 }
 
-/// Writes a table at the end, or a beginning of it where memory runs out.
+/// Writes a table at the end, or a beginning of it if memory runs out.
 pub fn put_table(out: &mut Vec<u8>, table: &TableFile) -> Result<(), AllocError>
     requires { IsTableProper table.now }
     ensures { OnOk result (Appends SpellsTable out.old.items out.new.items table.now) }

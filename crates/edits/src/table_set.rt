@@ -46,7 +46,7 @@ impl TableSet {
         }
     }
 
-    // Puts a table in, where none has its number. An `Err` changes nothing.
+    // Puts a table in, if none has its number. An `Err` changes nothing.
     pub(crate) fn add(&mut self, new: PlacedTable) -> Result<(), ReadError>
         ensures done { OnOk result (with_table new self.old ≡ Some self.new) }
         ensures refused { IfErr result (λ e. RefusesOnly e (with_table new self.old ≡ None)) }
@@ -64,7 +64,7 @@ impl TableSet {
         Ok(())
     }
 
-    // Takes the table of this number out, where it is at this level. An `Err` changes nothing.
+    // Takes the table of this number out, if it is at this level. An `Err` changes nothing.
     pub(crate) fn remove(&mut self, level: u32, number: u64) -> Result<(), ReadError>
         ensures done { OnOk result (without level number self.old ≡ Some self.new) }
         ensures refused { IfErr result (λ e. RefusesOnly e (without level number self.old ≡ None)) }

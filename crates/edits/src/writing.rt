@@ -24,7 +24,7 @@ pub fn encode_edit(alloc: Global, edit: &Edit) -> Result<Vec<u8>, AllocError>
     Ok(out)
 }
 
-// Writes a field at the end, or a beginning of it where memory runs out.
+// Writes a field at the end, or a beginning of it if memory runs out.
 fn put_field(out: &mut Vec<u8>, field: &Field) -> Result<(), AllocError>
     requires { IsProper field.now }
     ensures { OnOk result (Appends IsField out.old.items out.new.items field.now) }

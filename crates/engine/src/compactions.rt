@@ -52,7 +52,7 @@ impl<K: KeyOrder> DbState<K> {
         ensures breaks { self.old.broken ≡ false → BreaksLent S.facts source.old source.new self.new result }
         ensures caused { IsCausedIn (level_cause
             (open_status no_ids (open_db source.old.memory self.old)) level) source.old.tables.store source.new.tables.store result }
-        // Done or refused, over any store: no entry of a memtable is touched.
+        // Whether it succeeds or fails, over any store: no entry of a memtable is touched.
         ensures memory { LeavesMemories source.old.memory source.new.memory }
         ensures emptied { OnOk result (IsLevelEmpty level (open_db source.new.memory self.new)) }
         ensures moves { OnOk result (MovesLevel K.cmp level (open_db source.old.memory self.old) (open_db source.new.memory self.new)) }
@@ -178,7 +178,7 @@ impl<K: KeyOrder> DbState<K> {
         self.flush(alloc, source, options)
     }
 
-    // Writes the sealed memtable, where there is one, into a table.
+    // Writes the sealed memtable, if there is one, into a table.
     fn write_sealed<S: Store>(
         &mut self,
         alloc: Global,

@@ -1,4 +1,4 @@
-//! A refused open, which gives the store back.
+//! A refused open, which returns the store.
 
 ghost use Rattle.std.specs.Prelude.{◌≡◌};
 

@@ -34,7 +34,7 @@ pub enum Pace {
     /// The memtable that takes writes has fewer than `write_buffer` bytes, and level 0 at most
     /// three times `level0_files` tables.
     KeepsUp,
-    /// Work was refused for this. What was written is there.
+    /// Work failed for this. What was written is there.
     Refused(DbError),
 }
 

@@ -86,7 +86,7 @@ impl KeyRange {
     }
 }
 
-// Proves that a key begins so where it isn't below the prefix, and comes before its end.
+// Proves that a key begins so if it isn't below the prefix, and comes before its end.
 fn prefix_law()
     ensures { (prefix key : List ℕ) → All (λ byte. byte < 256) key →
         IsTrue (is_in_range (slice_cmp nat_cmp) (record { from = Some prefix; to = prefix_end prefix }) key) ↔ BeginsWith prefix key }
@@ -161,7 +161,7 @@ impl RangeWalk {
         }
     }
 
-    // Takes the pair to which its iterator was moved, where that is one of the range.
+    // Takes the pair to which its iterator was moved, if that is one of the range.
     fn settle<K: KeyOrder>(&mut self, found: Option<(Bytes, Bytes)>) -> Option<(Bytes, Bytes)>
         ensures { Settles K.cmp self.old found self.new result }
     {
@@ -254,7 +254,7 @@ impl<S: Store, K: KeyOrder> Db<S, K> {
         }
     }
 
-    // Moves the iterator of a walk: to the first pair that may be in its range, or to the next.
+    // Moves the iteration's iterator: to the first pair that may be in its range, or to the next.
     fn move_walk(
         &mut self,
         alloc: Global,
@@ -310,8 +310,8 @@ impl<S: Store, K: KeyOrder> Db<S, K> {
         Ok(())
     }
 
-    /// Ends a walk, and gives up its iterator. Nothing is refused: what a broken database keeps for
-    /// it goes when it is closed.
+    /// Ends an iteration, and releases its iterator. It never fails: what a broken database keeps
+    /// for it goes when it is closed.
     pub fn range_end(&mut self, walk: RangeWalk)
         ensures step { FollowsDb (order_of K.name K.cmp) S.facts self.old self.new
             (λ m n. (answer : Answer) × Drops m walk.id answer n) }

@@ -72,8 +72,8 @@ impl<K: KeyOrder> DbState<K> {
         ensures breaks { self.old.broken ≡ false → BreaksLent S.facts source.old source.new self.new result }
         ensures caused { IsCausedIn (not_serving (open_status no_ids (open_db source.old.memory self.old))) source.old.tables.store source.new.tables.store result }
         ensures does { DoesWork K.cmp options.now budget (open_db source.old.memory self.old) (open_db source.new.memory self.new) result }
-        // While the store is faithful, a compaction is at its end exactly where no more entries
-        // were left than the budget has.
+        // While the store is faithful, a compaction is at its end exactly if no more entries were
+        // left than the budget has.
         ensures within { EndsWithin (order_of K.name K.cmp) options.now budget (seen_of S.facts source.old)
             (seen_of S.facts source.new) (open_db source.old.memory self.old) (open_db source.new.memory self.new) result }
         // The table that it wrote of a sealed memtable has exactly that one's entries then.
@@ -181,7 +181,7 @@ impl<K: KeyOrder> DbState<K> {
         self.do_unless_compacting(alloc, source, options, budget)
     }
 
-    // Does the first piece of work that there is to do where no compaction is under way.
+    // Does the first piece of work that there is to do if no compaction is under way.
     fn do_unless_compacting<S: Store>(
         &mut self,
         alloc: Global,
@@ -215,8 +215,8 @@ impl<K: KeyOrder> DbState<K> {
         Ok(Progress::Worked)
     }
 
-    /// Writes the sealed memtable into a table file. An empty one needs none. Where a write of
-    /// the store fails, the database is broken.
+    /// Writes the sealed memtable into a table file. An empty one needs none. If a write of the
+    /// store fails, the database breaks.
     pub fn flush<S: Store>(
         &mut self,
         alloc: Global,
@@ -275,8 +275,8 @@ impl<K: KeyOrder> DbState<K> {
         }
     }
 
-    /// Seals the memtable, and begins a log for what is written from now on. Where a write of
-    /// the store fails, the database is broken.
+    /// Seals the memtable, and begins a log for what is written from now on. If a write of the
+    /// store fails, the database breaks.
     pub fn seal<S: Store>(
         &mut self,
         alloc: Global,
@@ -359,7 +359,7 @@ impl<K: KeyOrder> DbState<K> {
         }
     }
 
-    // How a refusal is answered before which so many writes of the store had failed. Where one has
+    // How an error is answered; before the call so many writes of the store had failed. If one has
     // failed since, the answer is Io, and the database is broken.
     pub(crate) fn refuse_since<S: Store>(
         &mut self,
@@ -377,7 +377,7 @@ impl<K: KeyOrder> DbState<K> {
         DbError::Io
     }
 
-    // Where the store failed in a call that only writes, the database is broken.
+    // If the store failed in a call that only writes, the database is broken.
     fn refuse(&mut self, error: DbError) -> DbError
         ensures answer { result ≡ error }
         ensures broken { self.new ≡ broken_by self.old error }

@@ -92,7 +92,7 @@ fn work_keeps_up_with_writes(rt: HostRuntime) -> Result<(), Fail> {
     Ok(())
 }
 
-// Writes until work is refused, and answers how many were written by then, or none where nothing is
+// Writes until work is refused, and answers how many were written by then, or none if nothing is
 // refused.
 fn first_refused(alloc: Global, db: &mut Db<FaultStore, Bytewise>) -> Result<Option<u8>, DbError> {
     for number in 0..200 {

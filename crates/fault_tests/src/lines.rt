@@ -29,7 +29,7 @@ pub const O: usize = 6;
 /// A value, of a byte, by the place of its key.
 pub type Map = [Option<u8>; KEYS];
 
-/// A key, and the value that it is given, or none where it is deleted.
+/// A key, and the value that it is given, or none if it is deleted.
 pub type Change = (usize, Option<u8>);
 
 /// Names a command.
@@ -111,7 +111,7 @@ pub fn op_of(alloc: Global, line: Line) -> Result<Op, DbError> {
     })
 }
 
-// The byte, where there is one and no more.
+// The byte, if there is one and no more.
 fn only_byte(bytes: &Bytes) -> Option<u8> {
     match bytes.as_slice() {
         [byte] => Some(*byte),

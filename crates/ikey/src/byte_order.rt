@@ -62,7 +62,7 @@ fn compare_second(a: &[u8], b: &[u8]) -> Ordering
     compare_rest(a, b)
 }
 
-// The same where the first two words are equal, and more follows.
+// The same if the first two words are equal, and more follows.
 #[inline(never)]
 fn compare_rest(a: &[u8], b: &[u8]) -> Ordering
     requires a_has_words { 16 ≤ length a.now }

@@ -34,8 +34,8 @@ pub enum Aim<'a> {
     From(&'a [u8]),
 }
 
-/// Looks on from a table for an entry: the table that has it, and a cursor there. Corrupt, where
-/// one to which it comes is torn there; Unsupported, where one passes a limit of reading.
+/// Looks on from a table for an entry: the table that has it, and a cursor there. Corrupt: one to
+/// which it comes is torn there. Unsupported: one passes a limit of reading.
 pub fn search_on<K: KeyOrder, S: Store>(
     alloc: Global,
     source: &mut Tables<K, S>,

@@ -45,7 +45,7 @@ fn ranked_of(alloc: Global, entries: &[Entry]) -> Result<Vec<Ranked<'_>>, AllocE
     Ok(ranked)
 }
 
-// The fronts decide where they can.
+// The fronts decide if they can.
 #[inline(always)]
 fn compare_ranked<K: KeyOrder>(a: &Ranked<'_>, b: &Ranked<'_>) -> Ordering
     ensures { result ≡ ranked_cmp K.cmp a.now b.now }

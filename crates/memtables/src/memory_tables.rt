@@ -266,7 +266,7 @@ impl<K: KeyOrder> MemoryTables<K> {
         self.sealed = None;
     }
 
-    /// Drops the older table of a generation, where there is one that isn't sealed. It takes no
+    /// Drops the older table of a generation, if there is one that isn't sealed. It takes no
     /// memory.
     pub fn forget(&mut self, generation: u64)
         ensures { KeepsUsed (IsRemembered generation self.old) self.old self.new }
@@ -296,8 +296,8 @@ impl<K: KeyOrder> MemoryTables<K> {
         self.older.get(&generation)
     }
 
-    /// Moves a cursor over the table of a generation. The entries stay. Corrupt, where there is no
-    /// such table.
+    /// Moves a cursor over the table of a generation. The entries stay. Corrupt: there is no such
+    /// table.
     pub(crate) fn move_cursor(
         &mut self,
         alloc: Global,
@@ -374,7 +374,7 @@ fn value_in<K: KeyOrder>(
     }
 }
 
-// How many bytes the keys and values of the operations have; None where that passes 64 bits.
+// How many bytes the keys and values of the operations have; None if that passes 64 bits.
 fn bytes_of(operations: &[Operation]) -> Option<usize>
     ensures { IfSome result (λ bytes. bytes ≡ sum_by operation_bytes operations.now) }
 {

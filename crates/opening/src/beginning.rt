@@ -33,7 +33,7 @@ use versions::Version;
 /// Holds what an open has before its database is made.
 #[derive(Drop)]
 pub struct Begun<K: KeyOrder> {
-    /// The entries of the logs, sealed where there are some, and the last sequence number used.
+    /// The entries of the logs, sealed if there are some, and the last sequence number used.
     pub memory: MemoryTables<K>,
     /// The tables, by level.
     pub version: Rc<Version<K>>,

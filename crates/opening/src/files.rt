@@ -1,4 +1,4 @@
-//! The store's calls by which an open writes, with the database's refusals.
+//! The store's calls by which an open writes, with the database's errors.
 
 ghost use Rattle.std.specs.Prelude.{◌≡◌, ◌≢◌, ◌⊎◌, IsTrue, List, [], OnOk, ℕ, false};
 ghost use Rattle.std.specs.FinMap.{contains_key};

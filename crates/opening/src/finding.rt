@@ -20,7 +20,7 @@ use store::Store;
 /// Holds what an open found, and the file number that it draws.
 #[derive(Drop)]
 pub struct Found {
-    /// The layout; one of nothing where there is no database.
+    /// The layout; one of nothing if there is no database.
     pub layout: Layout,
     /// The entries of the logs in use, as they were written.
     pub entries: Vec<Entry>,

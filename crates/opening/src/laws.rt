@@ -26,15 +26,14 @@ pub fn spared_law()
     ensures { SparedLaw }
 {}
 
-/// Proves that the same of each directory that differs in tables alone, where all that it reads is
-/// synced.
+/// Proves the same of each directory that differs in tables alone, if all that it reads is synced.
 pub fn kept_each_law()
     ensures { KeptEachLaw }
 {
     free_change_law();
 }
 
-/// Proves that the same of each, where all but the logs is.
+/// Proves the same of each, if all but the logs is.
 pub fn cut_each_law()
     ensures { CutEachLaw }
 {}

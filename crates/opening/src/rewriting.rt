@@ -110,7 +110,7 @@ fn current_content(alloc: Global, name: &str) -> Result<Vec<u8>, AllocError>
 struct LiveLogs {
     // this number and those above it
     from: u64,
-    // and this one, where it isn't 0
+    // and this one, if it isn't 0
     previous: u64,
 }
 

@@ -41,7 +41,7 @@ pub fn move_iterator<K: KeyOrder, S: Store>(
 ) -> Result<Option<(Bytes, Bytes)>, DbError>
     ensures moved { IsMoved K.cmp (motion_of movement.entry) (whole_in S.facts source.old)
         (whole_in S.facts source.new) scan.old scan.new result }
-    // Where there is no place to step from, nothing is done.
+    // If there is no place to step from, nothing is done.
     ensures undone { MatchOption (lacks_place scan.old.walk.stands (motion_of movement.entry)) (Unit {0}) (λ _. source.new ≡ source.old) }
 {
     let stood = scan.stands();

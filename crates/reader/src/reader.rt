@@ -56,7 +56,7 @@ impl<S: Store, K: KeyOrder> Reader<S, K> {
     /// Reads `CURRENT`, the MANIFEST and the logs, and sees that each table is there with its
     /// length. `NoDatabase` for an empty directory, Corrupt and Unsupported as an open of a
     /// database. It asks for no lock and draws no number. So many blocks are kept in memory, as
-    /// they are read. A refusal hands the store back.
+    /// they are read. An error returns the store.
     pub fn open(
         alloc: Global,
         store: ReadOnly<S>,

@@ -47,7 +47,7 @@ pub fn read_log_file<S: Store>(
         };
         let is_last = (piece.len() as u64) < PIECE;
         add_piece(&mut bytes, piece, size)?;
-        // Also where the file has become shorter since.
+        // Also if the file has become shorter since.
         if is_last {
             return Ok(Some(bytes));
         }

@@ -67,7 +67,7 @@ pub fn note_piece<S: Store>(store: &mut S, name: &str, offset: u64, piece: &[u8]
     store.note(trouble.moved(offset));
 }
 
-/// Notes what is wrong with a log of batches, whose sequence numbers are to be above this one.
+/// Notes what is wrong with a log of batches, whose sequence numbers must be above this one.
 pub fn note_log<S: Store>(
     alloc: Global,
     store: &mut S,

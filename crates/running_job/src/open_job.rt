@@ -74,9 +74,9 @@ impl<K: KeyOrder> OpenJob<K> {
     ghost use Rattle.versions.specs.Plans.{IsPlanOf};
 
     /// Begins the job of a plan for a version's tables: its cursor stands on the first entry of the
-    /// inputs, and no table is begun. `snapshots` are the sequence numbers whose views are to be
-    /// kept, rising: those of the live snapshots and the last one used. Corrupt where no edit could
-    /// name the plan's tables or hold its pointer.
+    /// inputs, and no table is begun. `snapshots` are the sequence numbers whose views must be
+    /// kept, rising: those of the live snapshots and the last one used. Corrupt: no edit could name
+    /// the plan's tables or hold its pointer.
     pub fn begin<S: Store>(
         alloc: Global,
         source: &mut Sources<K, S>,

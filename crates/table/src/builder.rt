@@ -192,7 +192,7 @@ impl<K: KeyOrder> TableBuilder<K> {
         self.block.size() >= self.block_bytes
     }
 
-    // Creates the file, where that wasn't done.
+    // Creates the file, if that wasn't done.
     fn create_file<S: Store>(&mut self, store: &mut S) -> Result<(), DbError>
         ensures kept { self.new ≡ record self.old { created = self.new.created } }
         ensures writes { Writes (S.facts store.old) (S.facts store.new) self.old.name }
@@ -223,7 +223,7 @@ impl<K: KeyOrder> TableBuilder<K> {
         Ok(())
     }
 
-    // Ends the block at hand where it has an entry.
+    // Ends the block at hand if it has an entry.
     fn end_last_block<S: Store>(&mut self, store: &mut S) -> Result<(), DbError>
         ensures name { self.new.name ≡ self.old.name }
         ensures hashes { OnOk result (self.new.hashes ≡ self.old.hashes) }

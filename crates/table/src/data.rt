@@ -84,7 +84,7 @@ pub fn read_within<K: KeyOrder, S: Store>(
     Ok(block)
 }
 
-// Whether its first key is an internal key, where it has one.
+// Whether its first key is an internal key, if it has one.
 fn begins_with_key<K: KeyOrder>(block: &Block<Internal<K>>) -> bool
     ensures { MatchBool result (BeginsWithKey block.now.pairs) (BeginsWithKey block.now.pairs → ⊥) }
 {

@@ -80,7 +80,7 @@ fn are_zeros(bytes: &[u8]) -> bool
     true
 }
 
-/// Writes the footer at the end, or a beginning of it where memory runs out.
+/// Writes the footer at the end, or a beginning of it if memory runs out.
 pub fn put_footer(out: &mut Vec<u8>, footer: Footer) -> Result<(), AllocError>
     ensures { OnOk result ((bytes : List ℕ) × IsFooter bytes footer.metaindex footer.index × (out.new.items ≡ out.old.items ++ bytes)) }
 {

@@ -20,7 +20,7 @@ pub struct Ends {
     pub footer: Footer,
 }
 
-/// Reads the footer, which is the last 48 bytes. Corrupt, where the file is shorter or they are no
+/// Reads the footer, which is the last 48 bytes. Corrupt: the file is shorter or they are no
 /// footer.
 pub fn read_ends<S: Store>(alloc: Global, store: &mut S, name: &str) -> Result<Ends, DbError>
     ensures reads { Reads (S.facts store.old) (S.facts store.new) }

@@ -57,7 +57,7 @@ fn number_at(bytes: &[u8]) -> Option<(u64, &[u8])>
     Some((number, behind))
 }
 
-/// Writes a handle at the end, or a beginning of it where memory runs out.
+/// Writes a handle at the end, or a beginning of it if memory runs out.
 pub fn put_handle(out: &mut Vec<u8>, handle: Handle) -> Result<(), AllocError>
     ensures { OnOk result (Appends IsHandle out.old.items out.new.items handle) }
 {

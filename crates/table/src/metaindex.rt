@@ -103,7 +103,7 @@ fn read_filter_block<S: Store>(
 }
 
 /// Reads the metaindex, and the filter block that it names, if it names one. Corrupt and
-/// Unsupported as `read_stored`; Corrupt too where a block isn't what it should be.
+/// Unsupported as `read_stored`; Corrupt too if a block isn't what it should be.
 pub fn read_filter<S: Store>(
     alloc: Global,
     store: &mut S,

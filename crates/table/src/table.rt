@@ -77,7 +77,7 @@ impl<K: KeyOrder> Table<K> {
         ensures stood { OnOk result ((S.facts store.new).failures ≡ (S.facts store.old).failures) }
         ensures noted { IfErr result (λ e. IsNoted name.now e (S.told store.new)) }
         ensures told { IfErr result (λ e. Refuses e (S.facts store.old) (S.facts store.new) name.now (IsFrameDamaged K.cmp) IsFrameUnsupported) }
-        // A frame is refused only where one of its blocks is too long.
+        // A frame is refused only if one of its blocks is too long.
         ensures refused { IfErr result (λ e. Refuses e (S.facts store.old) (S.facts store.new) name.now
             (λ file. (frame : Frame) → IsFrame K.cmp file frame → ⊥) (λ file. (frame : Frame) (is : IsFrame K.cmp file frame) → IsOversized K.cmp file frame is)) }
     {
@@ -166,7 +166,7 @@ impl<K: KeyOrder> Table<K> {
         ensures noted { IfErr result (λ e. IsNoted self.now.name e (S.told store.new)) }
         ensures told { IfErr result (λ e. Refuses e (S.facts store.old) (S.facts store.new) self.now.name
             (λ file. IsOfOne (IsDamaged K.cmp file) self.now.frame.places) (λ file. IsOfOne (IsUnsupported file) self.now.frame.places)) }
-        // A table is refused only where one of its blocks is too long.
+        // A table is refused only if one of its blocks is too long.
         ensures refused { IfErr result (λ e. Refuses e (S.facts store.old) (S.facts store.new) self.now.name
             (λ file. (entries : List InternalEntry) → IsFrame K.cmp file self.now.frame → IsTable K.cmp file entries → ⊥)
             (λ file. (entries : List InternalEntry) → IsFrame K.cmp file self.now.frame → IsTable K.cmp file entries → AnyLong (handles self.now.frame))) }
@@ -193,7 +193,7 @@ impl<K: KeyOrder> Table<K> {
         ensures told { IfErr result (λ e. Refuses e (S.facts store.old) (S.facts store.new) self.now.name
             (λ file. IsWrong K.cmp file self.now.frame.filter None self.now.frame.places ⊎ AreEmpty K.cmp file self.now.frame.places)
             (λ file. IsOfOne (IsUnsupported file) self.now.frame.places)) }
-        // A table is refused only where one of its blocks is too long.
+        // A table is refused only if one of its blocks is too long.
         ensures refused { IfErr result (λ e. Refuses e (S.facts store.old) (S.facts store.new) self.now.name
             (λ file. (entries : List InternalEntry) → IsFrame K.cmp file self.now.frame → IsTable K.cmp file entries → ⊥)
             (λ file. (entries : List InternalEntry) → IsFrame K.cmp file self.now.frame → IsTable K.cmp file entries → AnyLong (handles self.now.frame))) }
@@ -269,7 +269,7 @@ impl<K: KeyOrder> Table<K> {
         ensures told { IfErr result (λ e. Refuses e (S.facts store.old) (S.facts store.new) self.now.name
             (λ file. IsOfOneFrom K.cmp target.now (IsDamaged K.cmp file) self.now.frame.places)
             (λ file. IsOfOneFrom K.cmp target.now (IsUnsupported file) self.now.frame.places)) }
-        // A table is refused only where one of its blocks is too long.
+        // A table is refused only if one of its blocks is too long.
         ensures refused { IfErr result (λ e. Refuses e (S.facts store.old) (S.facts store.new) self.now.name
             (λ file. (entries : List InternalEntry) → IsFrame K.cmp file self.now.frame → IsTable K.cmp file entries → ⊥)
             (λ file. (entries : List InternalEntry) → IsFrame K.cmp file self.now.frame → IsTable K.cmp file entries → AnyLong (handles self.now.frame))) }

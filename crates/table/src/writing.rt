@@ -25,7 +25,7 @@ pub fn create<S: Store>(store: &mut S, name: &str) -> Result<(), DbError>
     }
 }
 
-/// Writes bytes at the end of the file. A refusal may have written a beginning of them.
+/// Writes bytes at the end of the file. If it fails, it may have written a beginning of them.
 pub fn append<S: Store>(store: &mut S, name: &str, bytes: &[u8]) -> Result<(), DbError>
     ensures writes { Writes (S.facts store.old) (S.facts store.new) name.now }
     ensures appended { OnOk result (Appended (S.facts store.old) (S.facts store.new) name.now bytes.now) }

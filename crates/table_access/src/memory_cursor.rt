@@ -29,7 +29,7 @@ pub struct MemoryCursor<K: KeyOrder> {
     node: Option<Node>,
     // the internal key of the node's entry
     key: Vec<u8>,
-    // room for the next one, so that a refused growth changes nothing
+    // room for the next one, so that a failed growth changes nothing
     spare: Vec<u8>,
     order: PhantomData<K>,
 }
@@ -127,7 +127,7 @@ impl<K: KeyOrder> MemoryCursor<K> {
         Ok(())
     }
 
-    // The node on which the cursor stands, where the table has it.
+    // The node on which the cursor stands, if the table has it.
     fn place_in(&self, table: &MemTable<K>) -> Option<Node>
         ensures place { IfSome result (IsPlace table.now.inserts) }
         ensures found { (node : ℕ) → self.now.node ≡ Some node → IsPlace table.now.inserts node → result ≡ Some node }

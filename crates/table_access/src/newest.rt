@@ -45,11 +45,11 @@ pub fn table_value<K: KeyOrder, S: Store>(
     ensures told { IfOk result (λ value. SaysOf K.cmp (seen_through S.facts source.old) (seen_through S.facts source.new)
         placed.now.table.number (TellsOfKey K.cmp placed.now key.now sequence value)) }
     ensures still { IsStill (S.facts source.old.store) (S.facts source.new.store) result }
-    // Where the table is open and its filter denies the key, no block is asked for.
+    // If the table is open and its filter denies the key, no block is asked for.
     ensures denied { (table : Opened) (file : List ℕ) → kept_table_at source.old.tables.tables placed.now.table.number ≡ Some table
         → IsFrame K.cmp file table.frame → IsDenied K.cmp table.frame key.now sequence
         → (source.new.store ≡ source.old.store) × (source.new.blocks ≡ source.old.blocks) }
-    // Corrupt only where the frame is damaged, or the search comes to a block that is none.
+    // Corrupt only if the frame is damaged, or the search comes to a block that is none.
     ensures torn { IfErr result (λ e. IfCorrupt e (SaysOf K.cmp (seen_through S.facts source.old) (seen_through S.facts source.new)
         placed.now.table.number (λ file. IsFrameDamaged K.cmp file ⊎ TornOfKey K.cmp placed.now key.now sequence file))) }
     ensures refused { IfErr result (λ e. Refuses e (S.facts source.old.store) (S.facts source.new.store)
@@ -93,8 +93,8 @@ fn is_denied<K: KeyOrder>(table: &Table<K>, start: usize, key: &[u8]) -> bool
     true
 }
 
-// What the entry at a cursor's place put, where it is one of the user key. Corrupt, where its key
-// is no internal key.
+// What the entry at a cursor's place put, if it is one of the user key. Corrupt: its key is no
+// internal key.
 fn value_at<K: KeyOrder>(
     alloc: Global,
     cursor: &BlockCursor<Internal<K>>,

@@ -186,8 +186,8 @@ impl<K: KeyOrder> TableCursor<K> {
         }
     }
 
-    /// Steps to the pair in front, where there is one; else it stays where it stands, and the
-    /// answer is false.
+    /// Steps to the pair before, if there is one; else it stays where it stands, and the answer is
+    /// false.
     pub fn step_back<S: Store>(
         &mut self,
         alloc: Global,

@@ -85,7 +85,7 @@ impl<K: KeyOrder, S: Store> Tables<K, S> {
         ensures carries { Carries K.cmp (Only number) (seen_through S.facts self.old) (seen_through S.facts self.new) }
         ensures found { IfOk (table_answer_of result) (λ table. SaysOf K.cmp (seen_through S.facts self.old) (seen_through S.facts self.new)
             number (λ file. HasFile (S.facts self.new.store) table.name file × IsOpenFrame K.cmp file table.frame)) }
-        // Where the table is kept it is answered, and the store isn't asked.
+        // If the table is kept it is answered, and the store isn't asked.
         ensures hit { IfSome (kept_table_at self.old.tables.tables number)
             (λ table. HitsTable table (table_answer_of result) × (self.new.store ≡ self.old.store)) }
         ensures blocks { self.new.blocks ≡ self.old.blocks }
@@ -121,7 +121,7 @@ impl<K: KeyOrder, S: Store> Tables<K, S> {
     }
 }
 
-/// Proves that where nothing is kept, all that is kept is right.
+/// Proves that if nothing is kept, all that is kept is right.
 pub fn empty_is_sound()
     ensures { EmptyIsSound }
 {}

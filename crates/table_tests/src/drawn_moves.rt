@@ -235,7 +235,7 @@ fn merge_of(alloc: Global, owners: &[u8], lists: u8) -> Result<Merged, AllocErro
 
 // ---- moves of the plain list
 
-// The index, where the list has it.
+// The index, if the list has it.
 fn within(numbers: &[u8], index: usize) -> Option<usize> {
     if index < numbers.len() {
         return Some(index);
@@ -297,7 +297,7 @@ fn step<C: Cursor<Bytewise, Source>>(
     }
 }
 
-// Whether the cursor stands on the entry of this number, or nowhere where there is none.
+// Whether the cursor stands on the entry of this number, or nowhere if there is none.
 fn is_at<C: Cursor<Bytewise, Source>>(
     cursor: &C,
     alloc: Global,

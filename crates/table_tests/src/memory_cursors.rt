@@ -150,7 +150,7 @@ fn keys_and_values_are_at_hand(rt: HostRuntime) {
     assert_eq!(rt; elsewhere(rt.alloc()), Ok(None));
 }
 
-// Whether the next pair of a walk, or the first one, is this.
+// Whether the next pair of an iteration, or the first one, is this.
 fn shows<C: Cursor<Bytewise, MemTable<Bytewise>>>(
     walk: &mut Visible<Bytewise, C>,
     alloc: Global,

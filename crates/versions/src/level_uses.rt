@@ -16,7 +16,7 @@ pub struct LevelUse {
     pub level: u32,
     /// How many there are.
     pub files: u64,
-    /// How many bytes they have, by their edits, or 2^64 - 1 where these are more.
+    /// How many bytes they have, by their edits, or 2^64 - 1 if these are more.
     pub bytes: u64,
     /// Whether a compaction of the level is due.
     pub is_due: bool,

@@ -351,7 +351,7 @@ impl Model {
         self.go(alloc, view, by)
     }
 
-    // The step of this number of a walk of the first iterator over all pairs.
+    // The step of this number of an iteration of the first iterator over all pairs.
     pub fn walk(&mut self, alloc: Global, number: u8) -> Result<Step, DbError> {
         let Some(view) = self.iterators.get(0).copied() else {
             return Err(DbError::NoIterator);
