@@ -1,5 +1,5 @@
 -- A write batch, in the words of LevelDB's db/write_batch.cc:
---   WriteBatch::rep_ := sequence: fixed64, count: fixed32, data: record[count]
+--   WriteBatch::rep_ := sequence number: fixed64, count: fixed32, data: record[count]
 --   record := kTypeValue varstring varstring | kTypeDeletion varstring
 --   varstring := len: varint32, data: uint8[len]
 use Rattle.std.specs.Prelude.{◌≡◌, ◌<◌, ◌≤◌, ◌+◌, ◌^◌, ℕ, Bool, ◌||◌, nat_lt, nat_le, if◌then◌else◌, List, [], ◌∷◌, ◌++◌, length, Option, Some, None, All}
@@ -22,7 +22,8 @@ abbrev pub AreOperations : List ℕ → List Operation → Type 0
 AreOperations bytes [] = bytes ≡ []
 AreOperations bytes (operation ∷ operations) = (first rest : List ℕ) × IsOperation first operation × AreOperations rest operations × (bytes ≡ first ++ rest)
 
--- The bytes are the batch of these operations. Operation i has the sequence `sequence + i`, and all are below 2 ^ 56.
+-- The bytes are the batch of these operations. Operation i has the sequence number `sequence + i`,
+-- and all are below 2 ^ 56.
 pub record IsBatch (bytes : List ℕ) (sequence : ℕ) (operations : List Operation) : Type 0 where
   pub sequence_fits : sequence < 2 ^ 56
   pub last_fits : sequence + length operations ≤ 2 ^ 56
@@ -45,13 +46,13 @@ operations_length (operation ∷ operations) = operation_length operation + oper
 abbrev pub encoded_length : List Operation → ℕ
 encoded_length operations = 12 + operations_length operations
 
--- A batch of `size` bytes and `count` operations would have more bytes, or more operations, with this one
--- than a batch may.
+-- A batch of `size` bytes and `count` operations would have more bytes, or more operations, with
+-- this one than a batch may.
 abbrev pub is_too_large : ℕ → ℕ → Operation → Bool
 is_too_large size count next = nat_lt 536870912 (size + operation_length next) || nat_le 1048576 count
 
--- Why an operation can't be added to a batch of `size` bytes and `count` operations: the key first, then
--- the value, then the batch.
+-- Why an operation can't be added to a batch of `size` bytes and `count` operations: the key first,
+-- then the value, then the batch.
 abbrev pub refusal_at : ℕ → ℕ → Operation → Option DbError
 refusal_at size count (Put key value) =
     if nat_lt 65535 (length key) then Some KeyTooLong
@@ -67,7 +68,8 @@ refusal_at size count (Delete key) =
 abbrev pub refusal_of : List Operation → Operation → Option DbError
 refusal_of operations next = refusal_at (encoded_length operations) (length operations) next
 
--- the first refusal, where the second operations are added one after the other to a batch of the first ones
+-- the first refusal, where the second operations are added one after the other to a batch of the
+-- first ones
 abbrev pub first_refusal : List Operation → List Operation → Option DbError
 first_refusal taken [] = None
 first_refusal taken (operation ∷ operations) = option_or (refusal_of taken operation) (first_refusal (taken ++ operation ∷ []) operations)

@@ -1,4 +1,5 @@
-//! Write batches: operations that are applied together, and their bytes (LevelDB's db/write_batch.cc).
+//! Write batches: operations that are applied together, and their bytes (LevelDB's
+//! db/write_batch.cc).
 #![tactic(auto)]
 
 mod limits;

@@ -1,5 +1,5 @@
-//! How many bytes operations take, and which of them may not be written. LevelDB has no such limits:
-//! they are this project's own, so that every length fits its field and every sum its type.
+//! How many bytes operations take, and which of them may not be written. LevelDB has no such
+//! limits: they are this project's own, so that every length fits its field and every sum its type.
 
 ghost use Rattle.std.specs.Prelude.{◌≡◌, ◌<◌, ◌≤◌, ◌+◌, ◌^◌, ◌||◌, if◌then◌else◌, nat_lt, nat_le, List, [], ◌∷◌, ◌++◌, length, MatchOption};
 ghost use Rattle.std.specs.Option.{option_or};
@@ -10,7 +10,7 @@ ghost use Rattle.batch.specs.declared.operation.Operation.{Operation as Operatio
 use crate::operation::Operation;
 use coding::DbError;
 
-/// How many bytes the sequence and the count take.
+/// Counts the bytes that the sequence number and the count take.
 pub const HEADER_LENGTH: usize = 12;
 
 // The longest key, in bytes.
@@ -25,23 +25,23 @@ const MAX_BATCH_LENGTH: usize = 536_870_912;
 // The most operations of a batch.
 const MAX_OPERATIONS: usize = 1_048_576;
 
-/// Why these operations, put into one batch in order, are refused: the first operation that is refused
-/// counts, and of its causes the key (`KeyTooLong`), then the value (`ValueTooLong`), then the batch
-/// (`BatchTooLarge`). None where a batch may hold them. Takes no memory, and looks at lengths alone.
+/// Returns why these operations can't be put into one batch in order, or None if they can. The
+/// first operation that fails counts, and of its causes the key (`KeyTooLong`), then the value
+/// (`ValueTooLong`), then the batch (`BatchTooLarge`). It takes no memory, and reads lengths alone.
 pub fn refusal(operations: &[Operation]) -> Option<DbError>
     ensures { result ≡ first_refusal [] operations.now }
 {
     length_of(operations).err()
 }
 
-/// Law: a batch with one operation more is refused where it was before, or else where that operation is. So
-/// what `put` and `delete` make of an empty batch is never refused.
+/// Proves that a batch with one operation more is refused where it was before, or else where that
+/// operation is. So what `put` and `delete` make of an empty batch is never refused.
 pub fn refusal_with_one_more()
     ensures { (operations : List OperationValue) (next : OperationValue)
         → first_refusal [] (operations ++ next ∷ []) ≡ option_or (first_refusal [] operations) (refusal_of operations next) }
 {}
 
-/// How many bytes a batch of these operations takes, or why it is refused.
+/// Returns how many bytes a batch of these operations takes, or why it isn't one.
 pub fn length_of(operations: &[Operation]) -> Result<usize, DbError>
     ensures { MatchOption (first_refusal [] operations.now) (result ≡ Ok (encoded_length operations.now)) (λ e. result ≡ Err e) }
 {
@@ -59,8 +59,8 @@ pub fn length_of(operations: &[Operation]) -> Result<usize, DbError>
     Ok(size)
 }
 
-/// How many bytes a batch of `size` bytes and `count` operations takes with a put behind them, or why
-/// the put is refused.
+/// Returns how many bytes a batch of `size` bytes and `count` operations takes with one more put,
+/// or why the put can't be added.
 pub fn length_with_put(
     size: usize,
     count: usize,
@@ -78,8 +78,8 @@ pub fn length_with_put(
     length_with(size, count, 1 + string_length(key) + string_length(value))
 }
 
-/// How many bytes a batch of `size` bytes and `count` operations takes with a delete behind them, or
-/// why the delete is refused.
+/// Returns how many bytes a batch of `size` bytes and `count` operations takes with one more
+/// delete, or why the delete can't be added.
 pub fn length_with_delete(size: usize, count: usize, key: &[u8]) -> Result<usize, DbError>
     ensures { MatchOption (refusal_at size count (Operation.Delete key.now)) (result ≡ Ok (size + operation_length (Operation.Delete key.now))) (λ e. result ≡ Err e) }
 {
@@ -89,7 +89,8 @@ pub fn length_with_delete(size: usize, count: usize, key: &[u8]) -> Result<usize
     length_with(size, count, 1 + string_length(key))
 }
 
-// How many bytes a batch of `size` bytes takes with an operation of `more` bytes, if it may have both.
+// How many bytes a batch of `size` bytes takes with an operation of `more` bytes, if it may have
+// both.
 fn length_with(size: usize, count: usize, more: usize) -> Result<usize, DbError>
     requires { more ≤ 536870912 }
     ensures { result ≡ (if nat_lt 536870912 (size + more) || nat_le 1048576 count then Err DbError.BatchTooLarge else Ok (size + more)) }

@@ -11,7 +11,8 @@ use crate::operation::Operation;
 use coding::{Bytes, Damage, ReadError, get_fixed32, get_fixed64, get_string};
 use std::alloc::Global;
 
-/// The sequence and the count at the front, and the bytes behind them.
+/// Reads the sequence number and the count at the front, and returns them with the bytes after
+/// them.
 pub fn header_of(bytes: &[u8]) -> Option<(u64, u32, &[u8])>
     ensures range { IfSome result (λ found. (found.0 < 2 ^ 64) × (found.1 < 2 ^ 32)) }
     ensures found { IfSome result (λ found. bytes.now ≡ fixed64 found.0 ++ (fixed32 found.1 ++ found.2.now)) }
@@ -24,8 +25,8 @@ pub fn header_of(bytes: &[u8]) -> Option<(u64, u32, &[u8])>
     Some((sequence, count, behind))
 }
 
-/// As many operations at the front, and the bytes behind them. The room for them grows with those that
-/// were read, whatever the count says.
+/// Reads as many operations at the front, and returns them with the bytes after them. The room for
+/// them grows with those that were read, whatever the count says.
 pub fn operations_of(
     alloc: Global,
     count: u32,
@@ -46,7 +47,7 @@ pub fn operations_of(
     Ok((operations, rest))
 }
 
-// The operation at the front, and the bytes behind it.
+// The operation at the front, and the bytes after it.
 fn operation_of(alloc: Global, bytes: &[u8]) -> Result<(Operation, &[u8]), ReadError>
     ensures found { IfOk result (λ found. (front : List ℕ) × IsOperation front found.0 × (bytes.now ≡ front ++ found.1.now)) }
     ensures refused { IfErr result (λ e. RefusesOnly e ((front rest : List ℕ) (operation : OperationValue)
@@ -67,7 +68,7 @@ fn operation_of(alloc: Global, bytes: &[u8]) -> Result<(Operation, &[u8]), ReadE
     }
 }
 
-// A copy of the string at the front, and the bytes behind it.
+// A copy of the string at the front, and the bytes after it.
 fn string_of(alloc: Global, bytes: &[u8]) -> Result<(Bytes, &[u8]), ReadError>
     ensures found { IfOk result (λ found. (front : List ℕ) × IsString front found.0 × (bytes.now ≡ front ++ found.1.now)) }
     ensures refused { IfErr result (λ e. RefusesOnly e ((front text rest : List ℕ)

@@ -12,8 +12,9 @@ use coding::{Bytes, Damage, DbError, ReadError, SEQUENCE_END};
 use std::alloc::Global;
 use std::marker::Model;
 
-/// Operations that are applied together, in order; contracts see the list of them. A batch that `new`,
-/// `put` and `delete` made is within the limits of `refusal`; one that was decoded may pass them.
+/// Holds operations that are applied together, in order; contracts see the list of them. A batch
+/// that `new`, `put` and `delete` made is within the limits of `refusal`; one that was decoded may
+/// pass them.
 #[derive(Debug, Drop)]
 pub struct Batch {
     operations: Vec<Operation>,
@@ -41,7 +42,7 @@ impl Batch {
     ghost use Rattle.batch.specs.Batch.{IsBatch, CanBeEncoded, operation_length, encoded_length, refusal_of};
     ghost use Rattle.batch.specs.declared.operation.Operation.{Operation as OperationValue};
 
-    /// A batch of no operations. The batch keeps `alloc` for what is added later.
+    /// Makes a batch of no operations. The batch keeps `alloc` for what is added later.
     pub fn new(alloc: Global) -> Self
         ensures { result ≡ [] }
     {
@@ -52,8 +53,9 @@ impl Batch {
         }
     }
 
-    /// Adds a put, with copies of key and value. An `Err` changes nothing: `KeyTooLong`, `ValueTooLong`
-    /// and `BatchTooLarge` in this order, all found before anything is copied, then `OutOfMemory`.
+    /// Adds a put, with copies of key and value. An `Err` changes nothing: `KeyTooLong`,
+    /// `ValueTooLong` and `BatchTooLarge` in this order, all found before anything is copied, then
+    /// `OutOfMemory`.
     pub fn put(&mut self, key: &[u8], value: &[u8]) -> Result<(), DbError>
         ensures ok { OnOk result (self.new ≡ self.old ++ Operation.Put key.now value.now ∷ []) }
         ensures err { OnErr result (self.new ≡ self.old) }
@@ -65,8 +67,8 @@ impl Batch {
         self.push(Operation::Put(key, value), length)
     }
 
-    /// Adds a delete, with a copy of the key. An `Err` changes nothing: `KeyTooLong` and `BatchTooLarge`
-    /// in this order, both found before anything is copied, then `OutOfMemory`.
+    /// Adds a delete, with a copy of the key. An `Err` changes nothing: `KeyTooLong` and
+    /// `BatchTooLarge` in this order, both found before anything is copied, then `OutOfMemory`.
     pub fn delete(&mut self, key: &[u8]) -> Result<(), DbError>
         ensures ok { OnOk result (self.new ≡ self.old ++ Operation.Delete key.now ∷ []) }
         ensures err { OnErr result (self.new ≡ self.old) }
@@ -91,14 +93,14 @@ impl Batch {
         Ok(())
     }
 
-    /// The operations, in order.
+    /// Returns the operations, in order.
     pub fn ops(&self) -> &[Operation]
         ensures { result.now ≡ self.now }
     {
         self.operations.as_slice()
     }
 
-    /// The operations, in order, given away without a copy.
+    /// Returns the operations, in order, without a copy.
     pub fn into_operations(self) -> Vec<Operation>
         ensures { result.items ≡ self }
     {
@@ -106,8 +108,8 @@ impl Batch {
         operations
     }
 
-    /// The bytes of the batch, whose first operation has this sequence. Their room is taken once, before
-    /// a byte is written.
+    /// Encodes the batch, whose first operation has this sequence number. The room is taken once,
+    /// before a byte is written.
     pub fn encode(&self, alloc: Global, sequence: u64) -> Result<Vec<u8>, DbError>
         requires first { sequence < 2 ^ 56 }
         requires last { sequence + length self.now ≤ 2 ^ 56 }
@@ -117,10 +119,11 @@ impl Batch {
         Ok(encoded(alloc, self.length, sequence, &self.operations)?)
     }
 
-    /// The batch that the bytes are, all of them, and the sequence of its first operation. Refused as
-    /// corrupt are fewer or more operations than the count, another kind byte, bytes left over, and a
-    /// sequence of 2^56 or more, the batch's own or an operation's. A count of 0 is read. No length that
-    /// the bytes tell is used to take memory before as many bytes are known to be there.
+    /// Decodes the batch that all of the bytes are, and returns it with the sequence number of its
+    /// first operation. Corrupt: fewer or more operations than the count, another kind byte, or
+    /// bytes left over. Corrupt too: a sequence number of 2^56 or more, the batch's own or an
+    /// operation's. A count of 0 is read. No length in the bytes is used to take memory before as
+    /// many bytes are known to be there.
     pub fn decode(alloc: Global, bytes: &[u8]) -> Result<(u64, Batch), ReadError>
         // The bytes are the batch that is answered.
         ensures found { IfOk result (λ found. IsBatch bytes.now found.0 found.1) }
@@ -148,7 +151,7 @@ impl Batch {
     }
 }
 
-/// Law: no bytes are two batches.
+/// Proves that no bytes are two batches.
 pub fn one_batch()
     ensures { (bytes : List ℕ) (sequence other : ℕ) (operations others : List OperationValue)
         → IsBatch bytes sequence operations → IsBatch bytes other others → (sequence ≡ other) × (operations ≡ others) }

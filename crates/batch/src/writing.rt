@@ -9,9 +9,9 @@ use crate::operation::Operation;
 use coding::{DbError, put_fixed32, put_fixed64, put_string};
 use std::alloc::{AllocError, Global};
 
-/// The bytes of the batch of these operations, the first of which has this sequence (LevelDB's
-/// `WriteBatch::rep_`, its db/write_batch.cc). Their room is taken once, before a byte is written. It fails only where
-/// memory does.
+/// Encodes the batch of these operations, the first of which has this sequence number (LevelDB's
+/// `WriteBatch::rep_`, its db/write_batch.cc). The room is taken once, before a byte is written. It
+/// fails only out of memory.
 pub fn encode_operations(
     alloc: Global,
     sequence: u64,
@@ -29,7 +29,8 @@ pub fn encode_operations(
     Ok(out)
 }
 
-/// The same in place of what `out` holds, whose room is used again. Where memory fails, some other bytes are left.
+/// Encodes the same into `out`, whose bytes are dropped and whose room is used again. Out of
+/// memory: some other bytes are left.
 pub fn encode_operations_into(
     out: &mut Vec<u8>,
     sequence: u64,
@@ -48,7 +49,7 @@ pub fn encode_operations_into(
     Ok(())
 }
 
-/// The bytes of a batch, in a vector with room for `capacity` bytes from the start.
+/// Encodes a batch in a vector with room for `capacity` bytes from the start.
 pub fn encoded(
     alloc: Global,
     capacity: usize,
@@ -66,7 +67,7 @@ pub fn encoded(
     Ok(out)
 }
 
-// Writes a batch where nothing is written yet, or a beginning of it where memory runs out.
+// Writes a batch into an empty vector, or a beginning of it if memory runs out.
 fn put_batch(out: &mut Vec<u8>, sequence: u64, operations: &[Operation]) -> Result<(), AllocError>
     requires empty { out.old.items ≡ [] }
     requires first { sequence < 2 ^ 56 }
@@ -80,7 +81,7 @@ fn put_batch(out: &mut Vec<u8>, sequence: u64, operations: &[Operation]) -> Resu
     put_operations(out, operations)
 }
 
-// Writes the operations at the end, or a beginning of them where memory runs out.
+// Writes the operations at the end, or a beginning of them if memory runs out.
 fn put_operations(out: &mut Vec<u8>, operations: &[Operation]) -> Result<(), AllocError>
     requires { All CanBeEncoded operations.now }
     ensures { OnOk result ((bytes : List ℕ) × AreOperations bytes operations.now × (out.new.items ≡ out.old.items ++ bytes)) }
@@ -109,8 +110,8 @@ fn put_operation(out: &mut Vec<u8>, operation: &Operation) -> Result<(), AllocEr
     }
 }
 
-/// Law: an encoding is as long as its operations make it; one of operations that aren't refused is within
-/// the limits of a batch.
+/// Proves that an encoding is as long as its operations make it; one of operations that aren't
+/// refused is within the limits of a batch.
 pub fn encoding_length()
     ensures length { (bytes : List ℕ) (sequence : ℕ) (operations : List OperationValue)
         → IsBatch bytes sequence operations → length bytes ≡ encoded_length operations }

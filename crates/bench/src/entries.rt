@@ -6,7 +6,8 @@ const KEY_BYTES: usize = 16;
 
 const VALUE_BYTES: usize = 100;
 
-// From how many bytes values are taken: more than a processor keeps nearby, so that copying a value costs what it does elsewhere.
+// From how many bytes values are taken: more than a processor keeps nearby, so that copying a value
+// costs what it does elsewhere.
 const NOISE_BYTES: usize = 1 << 20;
 
 const NOISE_SEED: u64 = 301;
@@ -20,7 +21,7 @@ fn stepped(state: u64) -> u64 {
     state.wrapping_mul(FACTOR).wrapping_add(SUMMAND)
 }
 
-/// Numbers as keys: sixteen decimal digits with zeros in front.
+/// Makes numbers as keys: sixteen decimal digits with zeros in front.
 #[derive(Drop)]
 pub struct Keys {
     drawn: bool,
@@ -31,7 +32,7 @@ pub struct Keys {
 }
 
 impl Keys {
-    /// The numbers from 0 on.
+    /// Makes the numbers from 0 on.
     pub fn rising() -> Self {
         Keys {
             drawn: false,
@@ -41,7 +42,7 @@ impl Keys {
         }
     }
 
-    /// Numbers below a bound, 0 alone where that is 0, in the order that the seed says.
+    /// Draws numbers below a bound, 0 alone if that is 0, in the order that the seed says.
     pub fn drawn(seed: u64, below: u64) -> Self {
         Keys {
             drawn: true,
@@ -62,7 +63,7 @@ impl Keys {
         number
     }
 
-    /// The next key.
+    /// Returns the next key.
     pub fn next_key(&mut self) -> &[u8] {
         let mut rest = self.next_number();
         for digit in self.text.iter_mut().rev() {
@@ -72,15 +73,15 @@ impl Keys {
         self.text.as_slice()
     }
 
-    /// The next key without its last digit, so that it lies among the keys and is none of them (LevelDB's
-    /// benchmarks/db_bench.cc, `ReadMissing`).
+    /// Returns the next key without its last digit, so that it lies among the keys and is none of
+    /// them (LevelDB's benchmarks/db_bench.cc, `ReadMissing`).
     pub fn next_missing(&mut self) -> &[u8] {
         let _ = self.next_key();
         self.text.get(..KEY_BYTES - 1).unwrap_or(&[])
     }
 
-    /// The next key with its last digit replaced, so that it lies among the keys and is none of them: the filter's hash tells
-    /// such keys badly apart.
+    /// Returns the next key with its last digit replaced, so that it lies among the keys and is
+    /// none of them: the filter's hash tells such keys badly apart.
     pub fn next_near(&mut self) -> &[u8] {
         let _ = self.next_key();
         self.text[KEY_BYTES - 1] = b'.';
@@ -88,7 +89,7 @@ impl Keys {
     }
 }
 
-/// Values of a hundred bytes, cut one behind the other from bytes that were drawn.
+/// Makes values of a hundred bytes, cut one after the other from bytes that were drawn.
 #[derive(Drop)]
 pub struct Values {
     noise: Vec<u8>,
@@ -96,7 +97,7 @@ pub struct Values {
 }
 
 impl Values {
-    /// Values that are cut from a megabyte of noise, which is drawn here.
+    /// Makes values that are cut from a megabyte of noise, which is drawn here.
     pub fn new(alloc: Global) -> Result<Self, AllocError> {
         let mut noise = Vec::with_capacity(alloc, NOISE_BYTES)?;
         let mut state = NOISE_SEED;
@@ -107,7 +108,7 @@ impl Values {
         Ok(Values { noise, place: 0 })
     }
 
-    /// The next value.
+    /// Returns the next value.
     pub fn next_value(&mut self) -> &[u8] {
         if self.noise.len().saturating_sub(self.place) < VALUE_BYTES {
             self.place = 0;

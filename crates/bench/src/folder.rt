@@ -8,7 +8,8 @@ use coding::DbError;
 use engine::Options;
 use store::{FileStore, StoreError};
 
-/// Runs the workload of a name over the folder at a path, prints its line, and answers the exit status.
+/// Runs the workload of a name over the folder at a path, prints its line, and answers the exit
+/// status.
 pub fn run(rt: &HostRuntime, name: &str, number: &str, path: &str) -> u8 {
     let Some(workload) = named(name) else {
         return misuse(rt);
@@ -27,7 +28,7 @@ pub fn run(rt: &HostRuntime, name: &str, number: &str, path: &str) -> u8 {
     report(rt, name, number, outcome)
 }
 
-/// A number of operations, which is at least 1.
+/// Reads a number of operations, which is at least 1.
 pub fn counted(text: &str) -> Option<u64> {
     match text.parse::<u64>() {
         Ok(0) => None,
@@ -36,16 +37,17 @@ pub fn counted(text: &str) -> Option<u64> {
     }
 }
 
-// From how many tables of level 0 on they are merged. LevelDB begins to with 4, and comes to it when it has 8 in most cases, since its
-// thread is busy: `bench/run` prints how many it merged. Here nothing waits, so that 8 is what makes both merge as many at once.
+// From how many tables of level 0 on they are merged. LevelDB begins to with 4, and comes to it
+// when it has 8 in most cases, since its thread is busy: `bench/run` prints how many it merged.
+// Here nothing waits, so that 8 is what makes both merge as many at once.
 const LEVEL0_FILES: u64 = 8;
 
-/// The sizes of LevelDB's db_bench, with a cache of 8 MB.
+/// Returns the sizes of LevelDB's db_bench, with a cache of 8 MB.
 pub fn options() -> Option<Options> {
     Options::new(4_194_304, 4096, 2_097_152, LEVEL0_FILES, 10_485_760, 2048)
 }
 
-/// Prints the line of a workload, or says why it was refused, and answers the exit status.
+/// Prints the line of a workload, or says why it failed, and answers the exit status.
 pub fn report<R: Print + Eprint>(
     rt: &R,
     name: &str,

@@ -1,4 +1,5 @@
-// How long each single write takes, with its share of the work behind it: not in the mean, but the slowest of them.
+// How long each single write takes, with its share of the work after it: not in the mean, but the
+// slowest of them.
 
 use crate::entries::{Keys, Values};
 use crate::folder::{counted, folder_fault, misuse, options};
@@ -14,7 +15,7 @@ use store::{FileStore, Store};
 
 const WRITTEN: u64 = 1;
 
-/// The work that follows each write.
+/// Tells the work that follows each write.
 #[derive(Clone, Copy)]
 enum Share {
     /// None, until all is written.
@@ -62,8 +63,8 @@ impl From<AllocError> for Fault {
     }
 }
 
-/// Writes drawn keys into the database of a folder, each with its share of work, prints how long the slowest took, and answers the exit
-/// status.
+/// Writes drawn keys into the database of a folder, each with its share of work, prints how long
+/// the slowest took, and returns the exit status.
 pub fn run(rt: &HostRuntime, share: &str, number: &str, path: &str) -> u8 {
     let Some(share) = share_of(share) else {
         return misuse(rt);

@@ -1,11 +1,11 @@
-//! The benchmark beside LevelDB: one workload over the database of a folder, which must exist. `bench/leveldb_twin.cc` does the same
-//! over LevelDB, and `bench/run` compares both. At its end it prints one line: the workload, N, how many entries were written or
-//! found, and a sum over their bytes.
+//! The benchmark beside LevelDB: one workload over the database of a folder, which must exist.
+//! `bench/leveldb_twin.cc` does the same over LevelDB, and `bench/run` compares both. At its end it
+//! prints one line: the workload, N, how many entries were written or found, and a sum over their
+//! bytes.
 //!
-//! `bench latency SHARE N DIR` writes N drawn keys and prints how long the slowest writes took, in nanoseconds, each with its share of
-//! work: none for 0, so many entries, or all that there is (`all`).
-//!
-//! With no argument it runs each workload over files in memory, a few entries each.
+//! `bench latency SHARE N DIR` writes N drawn keys and prints how long the slowest writes took, in
+//! nanoseconds. Each has its share of work: none for 0, so many entries, or all that there is
+//! (`all`). With no argument it runs each workload over files in memory, a few entries each.
 #![tactic(auto)]
 
 mod entries;
@@ -44,7 +44,7 @@ fn main(rt: HostRuntime) -> ExitCode {
     })
 }
 
-// The words behind the program's own name.
+// The words after the program's own name.
 fn arguments(rt: &(impl Env + AllocGlobal)) -> io::Result<Vec<String>> {
     let mut words = env::args(rt)?;
     words.next();

@@ -21,8 +21,8 @@ const READ: u64 = 3;
 
 const SYNCED_WRITES: u64 = 1000;
 
-/// Opens the database of a store, makes one where there is none, runs a workload of `number` operations over it and gives the store
-/// back closed; also where the workload was refused.
+/// Opens the database of a store, or makes one, and runs a workload of `number` operations over it.
+/// Returns the store with the database closed, also if the workload failed.
 pub fn run_over<S: Store>(
     alloc: Global,
     store: S,

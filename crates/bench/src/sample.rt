@@ -27,7 +27,7 @@ pub fn run<R: Print + Eprint + AllocGlobal>(rt: &R) -> u8 {
     0
 }
 
-// Sizes so small that memory tables are written and levels are compacted.
+// Sizes so small that memtables are written and levels are compacted.
 fn options() -> Option<Options> {
     Options::new(65_536, 1024, 16_384, 2, 65_536, 16)
 }

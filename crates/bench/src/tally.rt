@@ -1,6 +1,6 @@
 // What a workload wrote or found, so that both sides can be compared.
 
-/// How many entries, and the sum of their bytes by words of eight.
+/// Counts entries, and sums their bytes by words of eight.
 #[derive(Clone, Copy)]
 pub struct Tally {
     pub entries: u64,
@@ -8,7 +8,7 @@ pub struct Tally {
 }
 
 impl Tally {
-    /// Nothing was counted yet.
+    /// Makes a tally of nothing.
     pub fn new() -> Self {
         Tally { entries: 0, sum: 0 }
     }

@@ -1,4 +1,4 @@
-// What can be measured, by the names of LevelDB's db_bench where it has one.
+// What can be measured, by the names of LevelDB's db_bench if it has one.
 
 #[derive(Clone, Copy)]
 pub enum Workload {
@@ -36,7 +36,7 @@ pub enum Workload {
     Open,
 }
 
-/// Each workload with its name, in an order in which they can run on one folder.
+/// Lists each workload with its name, in an order in which they can run on one folder.
 pub const WORKLOADS: [(&str, Workload); 16] = [
     ("fillseq", Workload::FillSeq),
     ("fillbatch", Workload::FillBatch),
@@ -56,7 +56,7 @@ pub const WORKLOADS: [(&str, Workload); 16] = [
     ("open", Workload::Open),
 ];
 
-/// The workload of a name.
+/// Returns the workload of a name.
 pub fn named(name: &str) -> Option<Workload> {
     for (word, workload) in &WORKLOADS {
         if *word == name {

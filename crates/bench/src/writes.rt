@@ -9,11 +9,12 @@ use ikey::Bytewise;
 use std::alloc::Global;
 use store::Store;
 
-// After how many writes a piece of work is done, and of how many entries. LevelDB compacts on a thread of its own; here the writer
-// does it. Work removes files of no use first, for which it lists the folder, and writes and merges put each other's data out of the
-// processor's caches, so that seldom and much is cheaper than often and little: a tenth less than with half as much each 1,000 writes.
-// An entry is merged a few times on its way down, so that six for each one written keep level 0 at its limit. (With much less,
-// compactions take so long that the memory table, which is only sealed between them, grows to several times its size.)
+// After how many writes a piece of work is done. LevelDB compacts on a thread of its own; here the
+// writer does it. Seldom and much is cheaper than often and little: a tenth less than with half as
+// much each 1,000 writes. For work lists the folder, and writes and merges evict each other's data
+// from the processor's caches. Six entries for each one written keep level 0 at its limit, since an
+// entry is merged a few times on its way down. With much less, a compaction takes long, and the
+// memtable, which is only sealed between two, grows to several times its size.
 const WRITES_A_PIECE: u64 = 2000;
 
 const PIECE: u32 = 12_000;
@@ -21,7 +22,7 @@ const PIECE: u32 = 12_000;
 // Of how many entries a piece is where nobody waits for it.
 const LONG_PIECE: u32 = 1_000_000;
 
-/// How many puts a batch of `fillbatch` has.
+/// Counts the puts of a batch of `fillbatch`.
 pub const BATCHED: u64 = 1000;
 
 /// Writes entries, each for itself.
@@ -146,7 +147,8 @@ pub fn put_and_look_back<S: Store>(
     Ok(found)
 }
 
-// Does a piece of work where one is due behind the write of this index, and writes a memory table that it has sealed.
+// Does a piece of work if one is due after the write of this index, and writes a memtable that it
+// has sealed.
 fn work_after<S: Store>(alloc: Global, db: &mut Db<S, Bytewise>, i: u64) -> Result<(), DbError> {
     if i % WRITES_A_PIECE == WRITES_A_PIECE - 1 {
         if let Pace::Refused(error) = db.keep_up(alloc, PIECE) {

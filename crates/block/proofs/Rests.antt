@@ -13,7 +13,8 @@ abbrev pub key_before : ℕ → List ℕ → Option (List ℕ)
 key_before zero previous = None
 key_before (suc offset) previous = Some previous
 
--- from an offset on the bytes are entries whose keys rise, at some of whose offsets the waiting restarts stand
+-- from an offset on the bytes are entries whose keys rise, at some of whose offsets the waiting
+-- restarts stand
 abbrev pub RestOf : (List ℕ → List ℕ → Type 0) → ℕ → List ℕ → List ℕ → List ℕ → Type 0
 RestOf below offset previous waiting rest =
     (pairs : List Pair) × (later : List ℕ) × (waiting ≡ flat_map fixed32 later) × AreEntries offset previous pairs later rest × AreAbove below (key_before offset previous) pairs

@@ -1,5 +1,5 @@
--- Blocks (LevelDB's doc/table_format.md and table/block_builder.cc): entries that share the front of the
--- key before, then the offsets at which a reader may start, then their number.
+-- Blocks (LevelDB's doc/table_format.md and table/block_builder.cc): entries that share the front
+-- of the key before, then the offsets at which a reader may start, then their number.
 use Rattle.std.specs.Prelude.{◌≡◌, ◌<◌, ◌≤◌, ◌+◌, ◌^◌, ◌⊎◌, ℕ, List, [], ◌∷◌, ◌++◌, Option, Some, None, length, take}
 use Rattle.std.specs.List.{flat_map}
 use Rattle.coding.specs.declared.error.ReadError.{ReadError}
@@ -8,7 +8,8 @@ use Rattle.coding.specs.Fixed.{fixed32}
 use Rattle.coding.specs.Varint.{IsVarint}
 use Rattle.ikey.specs.Entries.{Pair}
 
--- An entry: how much of the key before it shares, the lengths of what follows, the rest of the key, the value.
+-- An entry: how much of the key before it shares, the lengths of what follows, the rest of the key,
+-- the value.
 pub record IsEntry (shared : ℕ) (rest value bytes : List ℕ) : Type 0 where
   pub first : List ℕ
   pub second : List ℕ
@@ -25,12 +26,13 @@ pub record IsEntry (shared : ℕ) (rest value bytes : List ℕ) : Type 0 where
 abbrev pub IsKeyBehind : List ℕ → ℕ → List ℕ → List ℕ → Type 0
 IsKeyBehind previous shared rest key = (shared ≤ length previous) × (key ≡ take shared previous ++ rest)
 
--- a restart may stand at an entry that shares nothing; `later` are the restarts behind this entry's offset
+-- a restart may stand at an entry that shares nothing; `later` are the restarts behind this entry's
+-- offset
 abbrev pub TakesRestart : ℕ → ℕ → List ℕ → List ℕ → Type 0
 TakesRestart offset shared restarts later = (restarts ≡ later) ⊎ ((shared ≡ 0) × (restarts ≡ offset ∷ later))
 
--- From an offset on, behind the key `previous`, the bytes are the entries of these pairs; of their offsets
--- these are restarts.
+-- From an offset on, behind the key `previous`, the bytes are the entries of these pairs; of their
+-- offsets these are restarts.
 abbrev pub AreEntries : ℕ → List ℕ → List Pair → List ℕ → List ℕ → Type 0
 AreEntries offset previous [] restarts bytes = (bytes ≡ []) × (restarts ≡ [])
 AreEntries offset previous (pair ∷ pairs) restarts bytes =
@@ -67,7 +69,8 @@ pub record IsLaidOut (below : List ℕ → List ℕ → Type 0) (body restarts b
 abbrev pub IsBlock : (List ℕ → List ℕ → Type 0) → List ℕ → List Pair → Type 0
 IsBlock below bytes pairs = (body restarts : List ℕ) × IsLaidOut below body restarts bytes pairs
 
--- Why a block isn't read: memory ran out, the bytes are damaged, or it passes the limit on its length.
+-- Why a block isn't read: memory ran out, the bytes are damaged, or it passes the limit on its
+-- length.
 abbrev pub Refuses : ReadError → Type 0 → Type 0 → Type 0
 Refuses read_error.Memory damaged large = Unit {0}
 Refuses (read_error.Corrupt what) damaged large = damaged

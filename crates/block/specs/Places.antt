@@ -23,7 +23,8 @@ abbrev pub index_before : ℕ → Option ℕ
 index_before zero = None
 index_before (suc index) = Some index
 
--- the index of the first pair whose key isn't below the target, or the length: the pairs in front are all below it
+-- the index of the first pair whose key isn't below the target, or the length: the pairs in front
+-- are all below it
 pub record IsFirstNotBelow (below : List ℕ → List ℕ → Type 0) (target : List ℕ) (pairs : List Pair) (index : ℕ) : Type 0 where
   pub inside : index ≤ length pairs
   pub front : AllByRecursion (λ (pair : Pair). below pair.key target) (take index pairs)

@@ -13,8 +13,8 @@ IsReadable body previous offset =
     (shared : ℕ) × (rest value entry behind : List ℕ) × IsEntry shared rest value entry × (shared ≤ length previous)
     × (offset ≤ length body) × (drop offset body ≡ entry ++ behind)
 
--- the entry at this offset behind the key `previous` has this key, begins at `start`, and its value and the
--- next entry begin at `value` and `next`
+-- the entry at this offset behind the key `previous` has this key, begins at `start`, and its value
+-- and the next entry begin at `value` and `next`
 pub record IsRead (body previous : List ℕ) (offset : ℕ) (key : List ℕ) (start value next : ℕ) : Type 0 where
   pub shared : ℕ
   pub rest : List ℕ
@@ -34,15 +34,16 @@ pub record IsFront (body : List ℕ) (pairs : List Pair) (index offset : ℕ) : 
   pub counted : index ≤ length pairs
   pub entries : AreEntries 0 [] (take index pairs) [] (take offset body)
 
--- so they are, the entries from there on are the other pairs, and reading on behind the key `previous` gives them
+-- so they are, the entries from there on are the other pairs, and reading on behind the key
+-- `previous` gives them
 pub record IsBefore (body : List ℕ) (pairs : List Pair) (index : ℕ) (previous : List ℕ) (offset : ℕ) : Type 0 where
   pub front : IsFront body pairs index offset
   pub later : List ℕ
   pub behind : AreEntries offset (key_behind [] (take index pairs)) (drop index pairs) later (drop offset body)
   pub readable : AreEntries offset previous (drop index pairs) later (drop offset body)
 
--- the entry of this index has this key, begins at `start`, and its value and the next entry begin at `value`
--- and `next`
+-- the entry of this index has this key, begins at `start`, and its value and the next entry begin
+-- at `value` and `next`
 pub record IsSpot (body : List ℕ) (pairs : List Pair) (index : ℕ) (key : List ℕ) (start value next : ℕ) : Type 0 where
   pub pair : Pair
   pub pair_is : slice_get pairs index ≡ Some pair
@@ -72,8 +73,8 @@ AreBelow below target pairs = AllByRecursion (λ (pair : Pair). below pair.key t
 abbrev pub IsStart : List ℕ → ℕ → Type 0
 IsStart body offset = (index : ℕ) × IsBefore body (pairs_of body) index [] offset
 
--- Reading can start at this restart in front of the offset; and the restart behind it, if there is one,
--- doesn't stand in front.
+-- Reading can start at this restart in front of the offset; and the restart behind it, if there is
+-- one, doesn't stand in front.
 pub record IsLastInFront (body list : List ℕ) (offset restart : ℕ) : Type 0 where
   pub starts : IsStart body restart
   pub less : restart < offset
@@ -91,8 +92,8 @@ abbrev pub StartsNotBelow : (List ℕ → List ℕ → Type 0) → List ℕ → 
 StartsNotBelow below target body offset =
     (index : ℕ) × IsBefore body (pairs_of body) index [] offset × ((pair : Pair) → slice_get (pairs_of body) index ≡ Some pair → below pair.key target → ⊥)
 
--- Reading can start at this restart with the keys in front of it below the target; and the entry at the
--- restart behind it, if there is one, isn't below it.
+-- Reading can start at this restart with the keys in front of it below the target; and the entry at
+-- the restart behind it, if there is one, isn't below it.
 pub record IsLastBelow (below : List ℕ → List ℕ → Type 0) (target body restarts : List ℕ) (restart : ℕ) : Type 0 where
   pub starts : StartsBelow below target body restart
   pub has : HasRestarts body restarts

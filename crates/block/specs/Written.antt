@@ -1,5 +1,5 @@
--- The writer's choice: each entry shares as much as it can, but every so many entries one shares nothing
--- and is a restart.
+-- The writer's choice: each entry shares as much as it can, but every so many entries one shares
+-- nothing and is a restart.
 use Rattle.std.specs.Prelude.{◌≡◌, ◌+◌, ◌%◌, ◌==◌, ℕ, suc, nat_eq, List, [], ◌∷◌, ◌++◌, Option, Some, None, length, if◌then◌else◌}
 use Rattle.std.specs.List.{common_prefix_len}
 use Rattle.ikey.specs.Entries.{Pair}
@@ -9,7 +9,8 @@ use Rattle.block.specs.Block.{IsEntry, IsKeyBehind, trailer}
 abbrev pub shared_at : ℕ → ℕ → List ℕ → List ℕ → ℕ
 shared_at interval index previous key = if index % interval == 0 then 0 else common_prefix_len nat_eq previous key
 
--- From an index and an offset on, behind the key `previous`, the bytes are what is written for these pairs.
+-- From an index and an offset on, behind the key `previous`, the bytes are what is written for
+-- these pairs.
 abbrev pub AreWritten : ℕ → ℕ → ℕ → List ℕ → List Pair → List ℕ → List ℕ → Type 0
 AreWritten interval index offset previous [] restarts bytes = (bytes ≡ []) × (restarts ≡ [])
 AreWritten interval index offset previous (pair ∷ pairs) restarts bytes =

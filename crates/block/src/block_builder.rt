@@ -11,12 +11,12 @@ use ikey::EntryOrder;
 use std::alloc::{AllocError, Global};
 use std::marker::{Model, PhantomData};
 
-/// Builds a block of entries whose keys rise in the order O (LevelDB's table/block_builder.cc). Contracts see
-/// the restart interval and the list of pairs that were added.
+/// Builds a block of entries whose keys rise in the order O (LevelDB's table/block_builder.cc).
+/// Contracts see the restart interval and the list of pairs that were added.
 #[derive(Drop)]
 pub struct BlockBuilder<O: EntryOrder> {
     out: Vec<u8>,
-    // the restarts behind the first one, which is 0
+    // the restart points after the first one, which is 0
     restarts: Vec<u32>,
     last_key: Vec<u8>,
     // how many entries there are
@@ -46,7 +46,8 @@ impl<O: EntryOrder> BlockBuilder<O> {
     ghost use Rattle.block.specs.Written.{Added, IsWritten, last_key, key_behind};
     ghost use Rattle.block.specs.Built.{written_length};
 
-    /// A block without entries, with a restart every `interval` entries. It takes no memory.
+    /// Begins a block without entries, with a restart point every `interval` entries. It takes no
+    /// memory.
     pub fn new(alloc: Global, interval: usize) -> Self
         requires { 0 < interval }
         ensures { result ≡ record { interval = interval; pairs = [] } }
@@ -61,8 +62,8 @@ impl<O: EntryOrder> BlockBuilder<O> {
         }
     }
 
-    /// The same, in the memory of a vector, whose bytes are dropped: so one block is built in the memory of another that was
-    /// written.
+    /// Begins the same in the memory of a vector, whose bytes are dropped: so one block is built in
+    /// the memory of another that was written.
     pub fn reusing(alloc: Global, interval: usize, room: Vec<u8>) -> Self
         requires { 0 < interval }
         ensures { result ≡ record { interval = interval; pairs = [] } }
@@ -75,7 +76,8 @@ impl<O: EntryOrder> BlockBuilder<O> {
         }
     }
 
-    /// Whether the key is above the last one that was added, so that `add` may be called with it.
+    /// Returns whether the key is above the last one that was added, so that `add` may be called
+    /// with it.
     pub fn is_above_last(&self, key: &[u8]) -> bool
         ensures { MatchBool result (ForSome (last_key self.now.pairs) (λ last. O.below last key.now)) (ForSome (last_key self.now.pairs) (λ last. O.below last key.now) → ⊥) }
     {
@@ -85,8 +87,8 @@ impl<O: EntryOrder> BlockBuilder<O> {
         O::is_below(&self.last_key, key)
     }
 
-    /// Adds an entry, whose key is above the last one, at the end. It shares as much of the key before as it
-    /// can, and nothing where it is a restart. An `Err` changes nothing.
+    /// Adds an entry, whose key is above the last one, at the end. It shares as much of the key
+    /// before as it can, and nothing if it is a restart point. An `Err` changes nothing.
     pub fn add(&mut self, key: &[u8], value: &[u8]) -> Result<(), AllocError>
         requires rises { ForSome (last_key self.old.pairs) (λ last. O.below last key.now) }
         requires room { written_length self.old + length key.now + length value.now ≤ 2 ^ 31 }
@@ -96,7 +98,7 @@ impl<O: EntryOrder> BlockBuilder<O> {
         let is_restart = self.count % self.interval == 0;
         let shared = shared_by(is_restart, &self.last_key, key);
         let (_, rest) = key.split_at(shared);
-        // What comes behind the entry can't fail.
+        // Nothing after the entry can fail.
         let missing = key.len().saturating_sub(self.last_key.len());
         self.last_key.reserve(missing)?;
         push_entry(
@@ -114,21 +116,21 @@ impl<O: EntryOrder> BlockBuilder<O> {
         Ok(())
     }
 
-    /// Whether no entry was added.
+    /// Returns whether no entry was added.
     pub fn is_empty(&self) -> bool
         ensures { MatchBool result (self.now.pairs ≡ []) (self.now.pairs ≡ [] → ⊥) }
     {
         self.out.is_empty()
     }
 
-    /// The key of the last entry, and nothing before the first.
+    /// Returns the key of the last entry, or no bytes before the first.
     pub fn last_key(&self) -> &[u8]
         ensures { result.now ≡ key_behind [] self.now.pairs }
     {
         self.last_key.as_slice()
     }
 
-    /// How many bytes `finish` would give now.
+    /// Returns how many bytes `finish` would give now.
     pub fn size(&self) -> usize
         ensures range { result < 2 ^ 32 }
         ensures size { result ≡ written_length self.now }
@@ -137,7 +139,8 @@ impl<O: EntryOrder> BlockBuilder<O> {
         self.out.len() + 4 * self.restarts.len() + 8
     }
 
-    /// The bytes of the block of the pairs that were added, which may be none. An `Err` loses them.
+    /// Returns the bytes of the block of the pairs that were added, which may be none. An `Err`
+    /// loses them.
     pub fn finish(self) -> Result<Vec<u8>, AllocError>
         ensures block { IfOk result (λ bytes. IsBlock O.below bytes.items self.pairs) }
         ensures written { IfOk result (λ bytes. IsWritten self.interval self.pairs bytes.items) }
@@ -148,7 +151,8 @@ impl<O: EntryOrder> BlockBuilder<O> {
     }
 }
 
-// Adds an entry, and its offset to the restarts where it is one and not the first. An `Err` changes nothing.
+// Adds an entry, and its offset to the restart points if it is one and not the first. An `Err`
+// changes nothing.
 fn push_entry(
     out: &mut Vec<u8>,
     restarts: &mut Vec<u32>,

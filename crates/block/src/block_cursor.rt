@@ -14,7 +14,7 @@ use std::marker::Model;
 use std::mem;
 use std::rc::Rc;
 
-/// An entry's key, and where in the block the entry lies.
+/// Holds an entry's key, and where in the block the entry lies.
 #[derive(Drop)]
 struct Spot {
     key: Vec<u8>,
@@ -23,9 +23,9 @@ struct Spot {
     next: usize,
 }
 
-/// Walks over a block's entries. A walk up keeps the key in one buffer, and reads each value in place; the
-/// other moves use a second buffer, until they have succeeded. Contracts see the block's list of pairs, and
-/// the index of the pair that the cursor stands on.
+/// Iterates over a block's entries. Going up, it keeps the key in one buffer, and reads each value
+/// in place; the other moves use a second buffer, until they have succeeded. Contracts see the
+/// block's list of pairs, and the index of the pair that the cursor stands on.
 #[derive(Drop)]
 pub struct BlockCursor<O: EntryOrder> {
     block: Rc<Block<O>>,
@@ -54,7 +54,7 @@ impl<O: EntryOrder> BlockCursor<O> {
     ghost use Rattle.ikey.specs.Entries.{Pair};
     ghost use Rattle.block.specs.Places.{Placed, within, last_of, index_before, index_behind, IsFirstNotBelow};
 
-    /// A cursor that stands nowhere. It takes no memory.
+    /// Makes a cursor that stands nowhere. It takes no memory.
     pub fn new(alloc: Global, block: Rc<Block<O>>) -> Self
         ensures { result ≡ record { pairs = block.value.pairs; place = None } }
     {
@@ -67,7 +67,7 @@ impl<O: EntryOrder> BlockCursor<O> {
         }
     }
 
-    /// Stands on the first entry, or nowhere where there is none. An `Err` leaves the place.
+    /// Moves to the first entry, or nowhere if there is none. An `Err` leaves the place.
     pub fn first(&mut self) -> Result<(), AllocError>
         ensures ok { OnOk result (self.new ≡ record self.old { place = within self.old.pairs 0 }) }
         ensures err { OnErr result (self.new ≡ self.old) }
@@ -85,7 +85,7 @@ impl<O: EntryOrder> BlockCursor<O> {
         Ok(())
     }
 
-    /// Stands on the last entry, or nowhere where there is none. An `Err` leaves the place.
+    /// Moves to the last entry, or nowhere if there is none. An `Err` leaves the place.
     pub fn last(&mut self) -> Result<(), AllocError>
         ensures ok { OnOk result (self.new ≡ record self.old { place = last_of self.old.pairs }) }
         ensures err { OnErr result (self.new ≡ self.old) }
@@ -103,8 +103,8 @@ impl<O: EntryOrder> BlockCursor<O> {
         Ok(())
     }
 
-    /// Stands on the first entry whose key isn't below the target, or nowhere where there is none. It finds a
-    /// restart by halving, and reads on from there. An `Err` leaves the place.
+    /// Moves to the first entry whose key isn't below the target, or nowhere if there is none. It
+    /// finds a restart point by halving, and reads on from there. An `Err` leaves the place.
     pub fn seek(&mut self, target: &[u8]) -> Result<(), AllocError>
         ensures pairs { self.new.pairs ≡ self.old.pairs }
         ensures ok { IfOk result (λ _. (index : ℕ) × IsFirstNotBelow O.below target.now self.old.pairs index × (self.new.place ≡ within self.old.pairs index)) }
@@ -122,7 +122,7 @@ impl<O: EntryOrder> BlockCursor<O> {
         Ok(())
     }
 
-    /// Stands on the entry behind, or nowhere where there is none. An `Err` leaves the place.
+    /// Moves to the next entry, or nowhere if there is none. An `Err` leaves the place.
     pub fn next(&mut self) -> Result<(), AllocError>
         requires { IsSome self.old.place }
         ensures ok { OnOk result (self.new ≡ record self.old { place = option_and_then (index_behind self.old.pairs) self.old.place }) }
@@ -138,7 +138,7 @@ impl<O: EntryOrder> BlockCursor<O> {
         Ok(())
     }
 
-    /// Stands on the entry in front, or nowhere where there is none. An `Err` leaves the place.
+    /// Moves to the previous entry, or nowhere if there is none. An `Err` leaves the place.
     pub fn prev(&mut self) -> Result<(), AllocError>
         requires { IsSome self.old.place }
         ensures ok { OnOk result (self.new ≡ record self.old { place = option_and_then index_before self.old.place }) }
@@ -156,7 +156,7 @@ impl<O: EntryOrder> BlockCursor<O> {
         Ok(())
     }
 
-    /// Whether an entry stands behind the one that the cursor stands on.
+    /// Returns whether an entry follows the one that the cursor stands on.
     pub fn has_next(&self) -> bool
         requires { IsSome self.now.place }
         ensures { result ≡ is_some (option_and_then (index_behind self.now.pairs) self.now.place) }
@@ -170,7 +170,7 @@ impl<O: EntryOrder> BlockCursor<O> {
         true
     }
 
-    /// Whether an entry stands in front of it.
+    /// Returns whether an entry comes before it.
     pub fn has_prev(&self) -> bool
         requires { IsSome self.now.place }
         ensures { result ≡ is_some (option_and_then index_before self.now.place) }
@@ -182,14 +182,14 @@ impl<O: EntryOrder> BlockCursor<O> {
         true
     }
 
-    /// Whether the cursor stands on an entry.
+    /// Returns whether the cursor stands on an entry.
     pub fn stands(&self) -> bool
         ensures { result ≡ is_some self.now.place }
     {
         self.stands
     }
 
-    /// The key of the entry that the cursor stands on.
+    /// Returns the key of the entry that the cursor stands on.
     pub fn key(&self) -> &[u8]
         requires { IsSome self.now.place }
         ensures { (index : ℕ) (pair : Pair) → self.now.place ≡ Some index → slice_get self.now.pairs index ≡ Some pair → result.now ≡ pair.key }
@@ -197,7 +197,7 @@ impl<O: EntryOrder> BlockCursor<O> {
         self.here.key.as_slice()
     }
 
-    /// The value of that entry, a part of the block.
+    /// Returns the value of that entry, a part of the block.
     pub fn value(&self) -> &[u8]
         requires { IsSome self.now.place }
         ensures { (index : ℕ) (pair : Pair) → self.now.place ≡ Some index → slice_get self.now.pairs index ≡ Some pair → result.now ≡ pair.value }
@@ -247,7 +247,7 @@ fn step(body: &[u8], spot: &mut Spot) -> Result<(), AllocError>
     }
 }
 
-// Keeps the front of a key, and puts the rest of another behind it. An `Err` changes nothing.
+// Keeps the front of a key, and appends the rest of another. An `Err` changes nothing.
 fn put_behind(key: &mut Vec<u8>, shared: usize, rest: &[u8]) -> Result<(), AllocError>
     requires { shared ≤ length key.old.items }
     ensures ok { OnOk result (key.new.items ≡ take shared key.old.items ++ rest.now) }
@@ -291,7 +291,8 @@ fn walk_to_not_below<O: EntryOrder>(
     Ok(false)
 }
 
-// A restart in front of which all keys are below the target: the last one whose key is, or the first restart.
+// A restart point before which all keys are below the target: the last one whose key is, or the
+// first one.
 fn restart_below<O: EntryOrder>(body: &[u8], restarts: &[u8], target: &[u8]) -> usize
     requires restarts { HasRestarts body.now restarts.now }
     requires rises { AreAbove O.below None (pairs_of body.now) }
@@ -322,7 +323,7 @@ fn is_restart_below<O: EntryOrder>(body: &[u8], restart: usize, target: &[u8]) -
     }
 }
 
-// The last restart in front of the offset.
+// The last restart point before the offset.
 fn restart_before(restarts: &[u8], offset: usize) -> usize
     requires some { 4 ≤ length restarts.now }
     requires offset { 0 < offset }

@@ -13,9 +13,9 @@ use ikey::EntryOrder;
 use std::alloc::{AllocError, Global};
 use std::mem;
 
-/// Whether the bytes are entries whose keys rise in the order O, and the restarts are offsets of entries that
-/// share nothing, the first of them 0: the last key, which has no bytes where there is no entry. At most two keys are kept at a
-/// time.
+/// Checks that the bytes are entries whose keys rise in the order O. The restart points must be
+/// offsets of entries that share nothing, the first of them 0. Returns the last key, which has no
+/// bytes if there is no entry. At most two keys are kept at a time.
 pub fn check_entries<O: EntryOrder>(
     alloc: Global,
     body: &[u8],
@@ -26,7 +26,7 @@ pub fn check_entries<O: EntryOrder>(
         × (last_key_from [] pairs ≡ last.items)) }
     ensures refused { IfErr result (λ e. RefusesOnly e ((pairs : List Pair) (list : List ℕ) → restarts.now ≡ flat_map fixed32 list → IsBody pairs list body.now → AreAbove O.below None pairs → ⊥)) }
 {
-    // Where there is no entry, the restart 0 stands all the same.
+    // If there is no entry, the restart point 0 stands all the same.
     if body.is_empty() {
         return match restarts {
             [0, 0, 0, 0] => Ok(Vec::new(alloc)),
@@ -66,8 +66,8 @@ pub fn check_entries<O: EntryOrder>(
     }
 }
 
-// Makes the next key of the one before it, and says whether it is above that one. Mostly one byte tells, and the front
-// that both share then stays where it is.
+// Makes the next key of the one before it, and says whether it is above that one. Mostly one byte
+// tells, and the front that both share then stays where it is.
 fn next_key<O: EntryOrder>(
     key: &mut Vec<u8>,
     spare: &mut Vec<u8>,
@@ -91,7 +91,7 @@ fn next_key<O: EntryOrder>(
     Ok(rises)
 }
 
-// The restarts behind the first one, where that is this offset.
+// The restart points after the first one, if that is this offset.
 fn behind_restart(restarts: &[u8], offset: usize) -> Option<&[u8]>
     requires { offset < 2 ^ 32 }
     ensures found { IfSome result (λ later. restarts.now ≡ fixed32 offset ++ later.now) }

@@ -9,7 +9,8 @@ ghost use Rattle.block.specs.Block.{IsEntry};
 use coding::{get_varint32, put_varint32};
 use std::alloc::AllocError;
 
-/// An entry that is read. Its key is the first `shared` bytes of the key before it, and `rest`.
+/// Holds an entry that is read. Its key is the first `shared` bytes of the key before it, and
+/// `rest`.
 #[derive(Clone, Copy, Debug)]
 pub struct Entry<'a> {
     pub shared: usize,
@@ -17,8 +18,8 @@ pub struct Entry<'a> {
     pub value: &'a [u8],
 }
 
-/// The entry at the front, and the bytes behind it. There is none where the bytes end too soon, or a length
-/// isn't a number of at most 32 bits in its shortest form.
+/// Reads the entry at the front, and returns it with the bytes after it. None: the bytes end too
+/// soon, or a length isn't a number of at most 32 bits in its shortest form.
 pub fn entry_at(bytes: &[u8]) -> Option<(Entry<'_>, &[u8])>
     ensures found { IfSome result (λ found. (front : List ℕ) × IsEntry found.0.shared found.0.rest.now found.0.value.now front × (bytes.now ≡ front ++ found.1.now)) }
     ensures none { IfNone result ((shared : ℕ) (rest value front behind : List ℕ) → IsEntry shared rest value front → bytes.now ≡ front ++ behind → ⊥) }
@@ -38,7 +39,7 @@ pub fn entry_at(bytes: &[u8]) -> Option<(Entry<'_>, &[u8])>
     ))
 }
 
-// The number of at most 32 bits at the front, and the bytes behind it. Mostly it takes one byte.
+// The number of at most 32 bits at the front, and the bytes after it. Mostly it takes one byte.
 #[inline(always)]
 fn length_at(bytes: &[u8]) -> Option<(usize, &[u8])>
     ensures range { IfSome result (λ found. found.0 < 2 ^ 32) }
@@ -72,7 +73,7 @@ fn split_front(bytes: &[u8], len: usize) -> Option<(&[u8], &[u8])>
     Some(bytes.split_at(len))
 }
 
-/// Writes an entry at the end, or a beginning of it where memory runs out.
+/// Writes an entry at the end, or a beginning of it if memory runs out.
 pub fn put_entry(
     out: &mut Vec<u8>,
     shared: usize,
@@ -93,7 +94,7 @@ pub fn put_entry(
     Ok(())
 }
 
-/// How many bytes at the front of the two are the same.
+/// Returns how many bytes at the front of the two are the same.
 pub fn shared_length(a: &[u8], b: &[u8]) -> usize
     ensures value { result ≡ common_prefix_len nat_eq a.now b.now }
     ensures in_a { result ≤ length a.now }
@@ -110,7 +111,7 @@ pub fn shared_length(a: &[u8], b: &[u8]) -> usize
     shared_from(a, b, shared)
 }
 
-// The numbers that the eight bytes from `start` on spell in each, where both have so many.
+// The numbers that the eight bytes from `start` on spell in each, if both have so many.
 #[inline(always)]
 fn words_at(a: &[u8], b: &[u8], start: usize) -> Option<(u64, u64)>
     ensures first { IfSome result (λ words. (start + 8 ≤ length a.now) × (take 8 (drop start a.now) ≡ fixed64 words.0)) }
@@ -138,7 +139,7 @@ fn shared_in_words(x: u64, y: u64) -> usize
     ((x ^ y).trailing_zeros() / 8) as usize
 }
 
-// How many bytes are the same where the first `start` are: byte by byte.
+// How many bytes are the same if the first `start` are: byte by byte.
 fn shared_from(a: &[u8], b: &[u8], start: usize) -> usize
     requires in_a { start ≤ length a.now }
     requires in_b { start ≤ length b.now }

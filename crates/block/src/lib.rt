@@ -1,5 +1,5 @@
-//! Blocks of entries whose keys rise, each key stored without the front that it shares with the one before
-//! (LevelDB's doc/table_format.md, table/block_builder.cc and table/block.cc).
+//! Blocks of entries whose keys rise, each key stored without the front that it shares with the one
+//! before (LevelDB's doc/table_format.md, table/block_builder.cc and table/block.cc).
 #![tactic(auto)]
 
 mod block_builder;

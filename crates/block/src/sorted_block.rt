@@ -13,18 +13,19 @@ use ikey::EntryOrder;
 use std::alloc::Global;
 use std::marker::{Model, PhantomData};
 
-/// The most bytes of a block that is read: a longer one isn't supported.
+/// Caps the bytes of a block that is read: a longer one isn't supported.
 pub const MAX_BLOCK_LENGTH: usize = 1 << 30;
 
-/// Between which bounds the keys of a block have to lie: above the first, where there is one, and not above the second.
+/// Holds the bounds of the keys of a block: above the first, if there is one, and not above the
+/// second.
 #[derive(Clone, Copy, Debug)]
 pub struct Bounds<'a> {
     pub floor: Option<&'a [u8]>,
     pub most: &'a [u8],
 }
 
-/// A block, checked once when it is opened, whose keys rise in the order O. Contracts see the bytes of its
-/// entries and the list of its pairs.
+/// Holds a block, checked once when it is opened, whose keys rise in the order O. Contracts see the
+/// bytes of its entries and the list of its pairs.
 #[derive(Drop)]
 pub struct Block<O: EntryOrder> {
     pub(crate) bytes: Vec<u8>,
@@ -55,9 +56,9 @@ impl<O: EntryOrder> Block<O> {
     ghost use Rattle.block.specs.Reading.{pairs_of};
     ghost use Rattle.block.specs.Spots.{HasRestarts};
 
-    /// The block that the bytes are, all of them. They are refused as corrupt where they are no block in the
-    /// order O (LevelDB's doc/table_format.md), as unsupported where there are more than `MAX_BLOCK_LENGTH`,
-    /// and where memory runs out for a key that is checked.
+    /// Opens the block that all of the bytes are. Corrupt: they are no block in the order O
+    /// (LevelDB's doc/table_format.md). Unsupported: there are more than `MAX_BLOCK_LENGTH`. It
+    /// also fails out of memory for a key that is checked.
     pub fn open(alloc: Global, bytes: Vec<u8>) -> Result<Self, ReadError>
         // The bytes are the encoding of what is read.
         ensures found { IfOk result (λ block. IsBlock O.below bytes.items block.pairs) }
@@ -69,7 +70,7 @@ impl<O: EntryOrder> Block<O> {
         Ok(block)
     }
 
-    /// The same, where its keys lie between these bounds: as corrupt a block is refused that has another one, too.
+    /// Opens it the same way, if its keys lie between these bounds. Corrupt also if one doesn't.
     pub fn open_between(
         alloc: Global,
         bytes: Vec<u8>,
@@ -89,7 +90,7 @@ impl<O: EntryOrder> Block<O> {
         Ok(block)
     }
 
-    /// The first key, where there is an entry.
+    /// Returns the first key, if there is an entry.
     pub fn first_key(&self) -> Option<&[u8]>
         ensures { MatchOption result (self.now.pairs ≡ []) (λ key. IsFirstKey key.now self.now.pairs) }
     {
@@ -116,7 +117,7 @@ impl<O: EntryOrder> Block<O> {
         is_at_most::<O>(last, bounds.most)
     }
 
-    // The block, and its last key, which has no bytes where there is no entry.
+    // The block, and its last key, which has no bytes if there is no entry.
     fn open_with_last(alloc: Global, bytes: Vec<u8>) -> Result<(Self, Vec<u8>), ReadError>
         ensures found { IfOk result (λ opened. IsBlock O.below bytes.items opened.0.pairs) }
         ensures last { IfOk result (λ opened. last_key_from [] opened.0.pairs ≡ opened.1.items) }
@@ -141,7 +142,7 @@ impl<O: EntryOrder> Block<O> {
         Ok((block, last))
     }
 
-    /// The memory of a block that nobody reads any more, with whatever is in it.
+    /// Returns the memory of a block that nobody reads any more, with whatever is in it.
     pub fn into_memory(self) -> Vec<u8> {
         self.bytes
     }
@@ -159,7 +160,7 @@ impl<O: EntryOrder> Block<O> {
     }
 }
 
-// Whether a key is above the bound, where there is one.
+// Whether a key is above the bound, if there is one.
 fn is_above<O: EntryOrder>(floor: Option<&[u8]>, key: &[u8]) -> bool
     ensures { MatchBool result (ForSome (option_copied floor.entry) (λ (bound : List ℕ). O.below bound key.now))
         (ForSome (option_copied floor.entry) (λ (bound : List ℕ). O.below bound key.now) → ⊥) }
@@ -180,7 +181,7 @@ fn is_at_most<O: EntryOrder>(key: &[u8], most: &[u8]) -> bool
     O::is_below(key, most)
 }
 
-/// Law: no bytes are the encoding of two lists of pairs.
+/// Proves that no bytes are the encoding of two lists of pairs.
 pub fn one_block<O: EntryOrder>()
     ensures { (bytes : List ℕ) (pairs others : List Pair) → IsBlock O.below bytes pairs → IsBlock O.below bytes others → pairs ≡ others }
 {}

@@ -1,4 +1,4 @@
-//! The restarts of a block, which stand behind its entries, and their number behind them (LevelDB's
+//! The restart points of a block, which follow its entries, and then their number (LevelDB's
 //! table/block_builder.cc).
 
 ghost use Rattle.std.specs.Prelude.{◌≡◌, ◌<◌, ◌≤◌, ◌*◌, ◌^◌, ◌++◌, List, ℕ, length, OnOk, IfNone, IfSome, slice_get, Some, ◌+◌, ◌∷◌};
@@ -9,8 +9,8 @@ ghost use Rattle.block.specs.Block.{trailer as trailer_of, AllSmall};
 use coding::{get_fixed32, put_fixed32};
 use std::alloc::AllocError;
 
-/// The entries, and the restarts in the four bytes each that they take. There are none where the bytes end
-/// too soon for that number of restarts.
+/// Splits a block into the entries, and the restart points in the four bytes each that they take.
+/// None: the bytes end too soon for that number of restart points.
 pub fn parts_of(bytes: &[u8]) -> Option<(&[u8], &[u8])>
     ensures found { IfSome result (λ found. (count : ℕ) × (length found.1.now ≡ 4 * count) × (bytes.now ≡ found.0.now ++ (found.1.now ++ fixed32 count))) }
     ensures none { IfNone result ((body restarts : List ℕ) → length restarts < 2 ^ 32 → bytes.now ≡ body ++ trailer_of restarts → ⊥) }
@@ -26,7 +26,7 @@ pub fn parts_of(bytes: &[u8]) -> Option<(&[u8], &[u8])>
     Some(front.split_at(front.len() - 4 * count))
 }
 
-/// The restart of this index.
+/// Returns the restart point of this index.
 pub fn restart_at(restarts: &[u8], index: usize) -> usize
     requires { 4 * index + 4 ≤ length restarts.now }
     ensures { (list : List ℕ) → AllSmall list → restarts.now ≡ flat_map fixed32 list → slice_get list index ≡ Some result }

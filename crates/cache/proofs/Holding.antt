@@ -69,7 +69,8 @@ holds_more cmp content before after number index answer kept holds answered k th
       (subst (λ h. IsBlockOf cmp content number h k.pairs) (sym new.1) (answered k.pairs new.2))
 ]
 
--- whether a block is kept or read, the store is only read, and what is refused is as the reader says
+-- whether a block is kept or read, the store is only read, and what is refused is as the reader
+-- says
 pub reads_none : (facts : Facts) → Reads facts facts
 reads_none facts = record { faithful = λ t. t; files = λ t. refl; failures = omega arith; writes = refl; denials = refl; locked = refl; synced = λ f. refl; calls = λ f. refl }
 

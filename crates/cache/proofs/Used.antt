@@ -16,7 +16,8 @@ use Rattle.cache.specs.declared.slot.Slot.{Slot}
 use Rattle.cache.specs.Tables.{KeptTable, IsKeptOf, kept_table, tables_of, tables_when_used}
 use Rattle.cache.specs.Uses.{first_that, all_others, when_used, IsPutFirst}
 
--- a cache's pairs as contracts see them, where a key passes exactly where what is seen of its pair does
+-- a cache's pairs as contracts see them, where a key passes exactly where what is seen of its pair
+-- does
 module _ {K V X : Type 0} (f : K × V → X) (test : K → Bool) (passes : X → Bool) (tests : (e : K × V) → passes (f e) ≡ test e.0) where
   pub first-map : (es : List (K × V)) → first_that passes (map f es) ≡ option_map f (lookup_entry test es)
   first-map [] = refl

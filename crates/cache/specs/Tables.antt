@@ -1,4 +1,5 @@
--- What a table cache keeps (LevelDB's db/table_cache.cc), what it answers, and how tables and their blocks are read.
+-- What a table cache keeps (LevelDB's db/table_cache.cc), what it answers, and how tables and their
+-- blocks are read.
 use Rattle.std.specs.Prelude.{◌≡◌, ◌⊎◌, ◌<◌, ◌==◌, ℕ, List, [], ◌∷◌, map, Option, Some, None, Result, Ok, Err, IfOk, IfErr, IsTrue, cond}
 use Rattle.std.specs.declared.alloc.Global.{Global}
 use Rattle.std.specs.declared.rc.Rc.{Rc}
@@ -26,8 +27,8 @@ pub record ReadsBlock (cmp : List ℕ → List ℕ → Ordering) (table : Opened
   pub refused : IfErr answer (λ e. Refuses e old new table.name (λ file. IsTornAt cmp file table.frame.places index)
       (λ file. IsUnsupportedAt file table.frame.places index))
 
--- The bytes of a table: of the file that ends in `.ldb` or, where there is none, of the one that ends in `.sst`,
--- as older writers named it.
+-- The bytes of a table: of the file that ends in `.ldb` or, where there is none, of the one that
+-- ends in `.sst`, as older writers named it.
 abbrev pub table_at : Files → ℕ → Option (List ℕ)
 table_at files number = option_or (get files (name_of (Table number))) (get files (name_of (OldTable number)))
 
@@ -101,7 +102,8 @@ IsTableAnswerPut number (Err e) capacity old new = new ≡ old
 
 -- ---- opening
 
--- why a call that only reads stopped: out of memory, while no call of the store failed, or since one failed
+-- why a call that only reads stopped: out of memory, while no call of the store failed, or since
+-- one failed
 abbrev pub StopsReading : DbError → Facts → Facts → Type 0
 StopsReading e old new = ((e ≡ OutOfMemory) × (new.failures ≡ old.failures)) ⊎ ((e ≡ Io) × (old.failures < new.failures))
 
@@ -109,8 +111,8 @@ StopsReading e old new = ((e ≡ OutOfMemory) × (new.failures ≡ old.failures)
 abbrev pub FindsName : Facts → Facts → ℕ → List ℕ → Type 0
 FindsName old new number name = IsTrue new.faithful → table_at old.files number ≡ get old.files name
 
--- the table of this number was opened: it has this file, of this name, what was read is its frame, and nothing of that
--- wasn't supported
+-- the table of this number was opened: it has this file, of this name, what was read is its frame,
+-- and nothing of that wasn't supported
 abbrev pub OpensFile : (List ℕ → List ℕ → Ordering) → Files → ℕ → Opened → Type 0
 OpensFile cmp files number table =
     (file : List ℕ) × (table_at files number ≡ Some file) × (get files table.name ≡ Some file) × IsFrame cmp file table.frame × (IsFrameUnsupported file → ⊥)
@@ -119,8 +121,9 @@ OpensFile cmp files number table =
 abbrev pub TableAnswers : Facts → Facts → ℕ → (List ℕ → Type 0) → Type 0
 TableAnswers old new number is = IsTrue new.faithful → (file : List ℕ) → table_at old.files number ≡ Some file → is file
 
--- Why a table isn't opened. Out of memory, while no call of the store failed, or since one failed; Corrupt, where of a
--- faithful store it has no file or is damaged; Unsupported, where it has no file or isn't supported.
+-- Why a table isn't opened. Out of memory, while no call of the store failed, or since one failed;
+-- Corrupt, where of a faithful store it has no file or is damaged; Unsupported, where it has no
+-- file or isn't supported.
 abbrev pub RefusesTable : DbError → Facts → Facts → ℕ → (List ℕ → Type 0) → (List ℕ → Type 0) → Type 0
 RefusesTable OutOfMemory old new number damaged unsupported = new.failures ≡ old.failures
 RefusesTable Io old new number damaged unsupported = old.failures < new.failures

@@ -24,11 +24,11 @@ type Pushed<K> = Result<
     AllocFailed<(Slot, Rc<Block<Internal<K>>>)>,
 >;
 
-/// Blocks that were read, up to a number of them, by the number of their table and their index in it (LevelDB's
-/// util/cache.cc). Where there are too many, the least recently used goes. Contracts see the blocks that are kept, the
-/// most recently used first, and how many there may be.
-///
-/// The memory of the block that went last is kept too, unless somebody still reads that: the next one is read into it.
+/// Holds blocks that were read, up to a number of them, by the number of their table and their
+/// index in it (LevelDB's util/cache.cc). If there are too many, the least recently used goes. The
+/// memory of the block that went last is kept, unless somebody still reads that: the next one is
+/// read into it. Contracts see the blocks that are kept, the most recently used first, and how many
+/// there may be.
 #[derive(Drop)]
 pub struct BlockCache<K: KeyOrder> {
     // None where nothing is ever kept.
@@ -55,7 +55,7 @@ impl<K: KeyOrder> BlockCache<K> {
     ghost use Rattle.cache.specs.Holding.{HoldsBlocks, HasContent, IsBlockOf};
     ghost use Rattle.cache.specs.Blocks.{KeptBlock, answer_of, answer_if, blocks_when_used, kept_at, Hits, IsAnswered, IsAnswerPut, IsBlockPut, IsOf};
 
-    /// A cache that keeps nothing, and takes no memory: what a database that isn't open has.
+    /// Makes a cache that keeps nothing, and takes no memory: what a database that isn't open has.
     pub fn none() -> Self
         ensures empty { result.blocks ≡ [] }
         ensures capacity { result.capacity ≡ 0 }
@@ -66,7 +66,7 @@ impl<K: KeyOrder> BlockCache<K> {
         }
     }
 
-    /// A cache that keeps at most so many blocks, and none yet.
+    /// Makes a cache that keeps at most so many blocks, and none yet.
     pub fn new(alloc: Global, capacity: NonZeroUsize) -> Result<Self, AllocError>
         ensures empty { IfOk result (λ cache. cache.blocks ≡ []) }
         ensures capacity { IfOk result (λ cache. cache.capacity ≡ non_zero_usize_get capacity) }
@@ -78,7 +78,7 @@ impl<K: KeyOrder> BlockCache<K> {
         })
     }
 
-    /// How many blocks are kept.
+    /// Returns how many blocks are kept.
     pub fn len(&self) -> usize
         ensures length { result ≡ length self.now.blocks }
         ensures fits { result ≤ self.now.capacity }
@@ -89,16 +89,16 @@ impl<K: KeyOrder> BlockCache<K> {
         }
     }
 
-    /// Whether no block is kept.
+    /// Returns whether no block is kept.
     pub fn is_empty(&self) -> bool
         ensures { result ≡ (length self.now.blocks == 0) }
     {
         self.len() == 0
     }
 
-    /// The block of an index of the table of this number: the one that is kept or, where none is, what the reader
-    /// answers, which is kept from then on where it is a block and there is memory to keep it. OutOfMemory, for a kept
-    /// block, where it has as many owners as can be counted.
+    /// Returns the block of an index of the table of this number: the one that is kept, or else
+    /// what the reader answers. A block that is read is kept if there is memory to keep it.
+    /// OutOfMemory also comes for a kept block that has as many owners as can be counted.
     pub fn fetch<Source, R: ReadBlock<K, Source>>(
         &mut self,
         alloc: Global,
@@ -111,9 +111,9 @@ impl<K: KeyOrder> BlockCache<K> {
         ensures answer { MatchOption (kept_at self.old.blocks file index)
             (R.reads reader.now source.old source.new index (answer_of result))
             (λ pairs. Hits pairs (answer_of result) × (source.new ≡ source.old)) }
-        // What is kept was kept before, or is what was answered. So a refusal isn't kept.
+        // What is kept was kept before, or is what was answered. So an error isn't kept.
         ensures kept { (kept : KeptBlock) → Contains self.new.blocks kept → Contains self.old.blocks kept ⊎ IsAnswered kept file index (answer_of result) }
-        // The block goes first, so that the last one is let go where there are too many.
+        // The block goes first, so that the last one is dropped if there are too many.
         ensures order { MatchOption (kept_at self.old.blocks file index)
             (IsAnswerPut file index (answer_of result) self.old.capacity (blocks_when_used file index self.old.blocks) self.new.blocks)
             (λ _. self.new.blocks ≡ blocks_when_used file index self.old.blocks) }
@@ -128,8 +128,8 @@ impl<K: KeyOrder> BlockCache<K> {
         Ok(block)
     }
 
-    /// The data block of an index of this open table, which has this number: by `fetch`. Corrupt and Unsupported as
-    /// `Table::block_at`.
+    /// Returns the data block of an index of this open table, which has this number, by `fetch`.
+    /// Corrupt and Unsupported as `Table::block_at`.
     pub fn read_block<S: Store>(
         &mut self,
         alloc: Global,
@@ -139,7 +139,8 @@ impl<K: KeyOrder> BlockCache<K> {
         index: usize,
     ) -> Result<Rc<Block<Internal<K>>>, DbError>
         ensures reads { Reads (S.facts store.old) (S.facts store.new) }
-        // Where each kept block is that of its table, so is the one that is answered, and so are those kept afterwards.
+        // If each kept block is that of its table, the one that is answered is too, and so is each
+        // that is kept afterwards.
         ensures found { (content : ℕ → Option (List ℕ)) → HoldsBlocks K.cmp content self.old.blocks → HasContent K.cmp content file (S.facts store.old) table.now
             → IsTrue (S.facts store.new).faithful → IfOk (answer_of result) (λ pairs. IsBlockOf K.cmp content file index pairs) }
         ensures holds { (content : ℕ → Option (List ℕ)) → HoldsBlocks K.cmp content self.old.blocks → HasContent K.cmp content file (S.facts store.old) table.now
@@ -182,7 +183,7 @@ impl<K: KeyOrder> BlockCache<K> {
         }
     }
 
-    // Keeps the block, where there is memory for it, and the memory of the one that goes for it.
+    // Keeps the block, if there is memory for it, and the memory of the one that goes for it.
     fn keep(&mut self, file: u64, index: usize, block: &Rc<Block<Internal<K>>>)
         ensures kept { (kept : KeptBlock) → Contains self.new.blocks kept → Contains self.old.blocks kept ⊎ IsOf kept file index block.now.value.pairs }
         ensures order { IsBlockPut file index block.now.value.pairs self.old.capacity self.old.blocks self.new.blocks }
@@ -215,7 +216,7 @@ fn find_in<K: KeyOrder>(
     Ok(Some(block))
 }
 
-// Keeps the block, where there is memory for it, and answers the memory of the one that goes for it.
+// Keeps the block, if there is memory for it, and answers the memory of the one that goes for it.
 fn keep_in<K: KeyOrder>(
     blocks: &mut LruCache<Slot, Rc<Block<Internal<K>>>>,
     file: u64,
@@ -245,7 +246,8 @@ fn memory_of<K: KeyOrder>(pushed: Pushed<K>) -> Option<Vec<u8>> {
     Some(block.into_memory())
 }
 
-/// Law: what is kept stays right while tables come into use under new numbers and go out of use.
+/// Proves that what is kept stays right while tables come into use under new numbers and go out of
+/// use.
 pub fn blocks_last()
     ensures { BlocksLast }
 {}

@@ -13,8 +13,8 @@ use std::rc::Rc;
 use store::{Store, StoreError};
 use table::Table;
 
-/// The table of this number, opened, in memory of its own, to be shared. Corrupt where it has no file; Corrupt and
-/// Unsupported else as `Table::open`.
+/// Opens the table of this number, in memory of its own, to be shared. Corrupt: it has no file.
+/// Corrupt and Unsupported also as `Table::open`.
 pub fn open_table<K: KeyOrder, S: Store>(
     alloc: Global,
     store: &mut S,
@@ -29,8 +29,8 @@ pub fn open_table<K: KeyOrder, S: Store>(
     Ok(shared)
 }
 
-// The name of the file of the table of this number: the one that ends in `.ldb` where that is there, else the one that
-// ends in `.sst`, as older writers named it.
+// The name of the file of the table of this number: the one that ends in `.ldb` if that is there,
+// else the one that ends in `.sst`, as older writers named it.
 fn table_name<S: Store>(alloc: Global, store: &mut S, number: u64) -> Result<String, DbError>
     requires { 0 < number }
     ensures reads { Reads (S.facts store.old) (S.facts store.new) }

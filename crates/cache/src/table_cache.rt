@@ -15,9 +15,9 @@ use std::rc::Rc;
 use store::Store;
 use table::Table;
 
-/// Tables that stay open, up to a number of them, by their number (LevelDB's db/table_cache.cc). Where there are too
-/// many, the least recently used goes. Contracts see the tables that are kept, the most recently used first, and how
-/// many there may be.
+/// Holds tables that stay open, up to a number of them, by their number (LevelDB's
+/// db/table_cache.cc). If there are too many, the least recently used goes. Contracts see the
+/// tables that are kept, the most recently used first, and how many there may be.
 #[derive(Drop)]
 pub struct TableCache<K: KeyOrder> {
     // None where nothing is ever kept.
@@ -41,7 +41,7 @@ impl<K: KeyOrder> TableCache<K> {
     ghost use Rattle.table.specs.Reading.{Reads};
     ghost use Rattle.table.specs.Refusals.{IsFrameDamaged, IsFrameUnsupported};
 
-    /// A cache that keeps nothing, and takes no memory: what a database that isn't open has.
+    /// Makes a cache that keeps nothing, and takes no memory: what a database that isn't open has.
     pub fn none() -> Self
         ensures empty { result.tables ≡ [] }
         ensures capacity { result.capacity ≡ 0 }
@@ -49,7 +49,7 @@ impl<K: KeyOrder> TableCache<K> {
         TableCache { tables: None }
     }
 
-    /// A cache that keeps at most so many tables, and none yet.
+    /// Makes a cache that keeps at most so many tables, and none yet.
     pub fn new(alloc: Global, capacity: NonZeroUsize) -> Result<Self, AllocError>
         ensures empty { IfOk result (λ cache. cache.tables ≡ []) }
         ensures capacity { IfOk result (λ cache. cache.capacity ≡ non_zero_usize_get capacity) }
@@ -60,7 +60,7 @@ impl<K: KeyOrder> TableCache<K> {
         })
     }
 
-    /// How many tables are kept.
+    /// Returns how many tables are kept.
     pub fn len(&self) -> usize
         ensures length { result ≡ length self.now.tables }
         ensures fits { result ≤ self.now.capacity }
@@ -71,16 +71,17 @@ impl<K: KeyOrder> TableCache<K> {
         }
     }
 
-    /// Whether no table is kept.
+    /// Returns whether no table is kept.
     pub fn is_empty(&self) -> bool
         ensures { result ≡ (length self.now.tables == 0) }
     {
         self.len() == 0
     }
 
-    /// The open table of this number: the one that is kept or, where none is, one that is opened, and kept from then on
-    /// where there is memory to keep it. Its file is the one that ends in `.ldb` or, where there is none, the one that
-    /// ends in `.sst`; where neither is there it is Corrupt. Corrupt and Unsupported else as `Table::open`.
+    /// Returns the open table of this number: the one that is kept, or else one that is opened now,
+    /// and kept if there is memory to keep it. Its file ends in `.ldb` or, if there is no such
+    /// file, in `.sst`. Corrupt: it has neither file. Corrupt and Unsupported also as
+    /// `Table::open`.
     pub fn get_table<S: Store>(
         &mut self,
         alloc: Global,
@@ -88,25 +89,27 @@ impl<K: KeyOrder> TableCache<K> {
         number: u64,
     ) -> Result<Rc<Table<K>>, DbError>
         requires { 0 < number }
-        // A kept table is answered, and the store isn't asked. Else the answer is that of opening the table's file.
+        // A kept table is answered, and the store isn't asked. Else the answer is that of opening
+        // the table's file.
         ensures answer { MatchOption (kept_table_at self.old.tables number)
             (OpensTable K.cmp (S.facts store.old) (S.facts store.new) number (table_answer_of result))
             (λ table. HitsTable table (table_answer_of result) × (store.new ≡ store.old)) }
-        // What is kept was kept before, or is what was answered. So a refusal isn't kept.
+        // What is kept was kept before, or is what was answered. So an error isn't kept.
         ensures kept { (kept : KeptTable) → Contains self.new.tables kept → Contains self.old.tables kept ⊎ IsAnsweredTable kept number (table_answer_of result) }
-        // The table goes first, so that the last one is let go where there are too many.
+        // The table goes first, so that the last one is dropped if there are too many.
         ensures order { MatchOption (kept_table_at self.old.tables number)
             (IsTableAnswerPut number (table_answer_of result) self.old.capacity (tables_when_used number self.old.tables) self.new.tables)
             (λ _. self.new.tables ≡ tables_when_used number self.old.tables) }
         ensures reads { Reads (S.facts store.old) (S.facts store.new) }
-        // Where each kept table is that of its number, so is the one that is answered, and so are those kept afterwards.
+        // If each kept table is that of its number, the one that is answered is too, and so is each
+        // that is kept afterwards.
         ensures found { (content : ℕ → Option (List ℕ)) → HoldsTables K.cmp content (S.facts store.old) self.old.tables → HasTableInUse content number (S.facts store.old)
             → IsTrue (S.facts store.new).faithful → IfOk (table_answer_of result) (λ table. IsOpenOf K.cmp content (S.facts store.new) number table) }
         ensures holds { (content : ℕ → Option (List ℕ)) → HoldsTables K.cmp content (S.facts store.old) self.old.tables → HasTableInUse content number (S.facts store.old)
             → IsTrue (S.facts store.new).faithful → HoldsTables K.cmp content (S.facts store.new) self.new.tables }
         ensures stood { OnOk result ((S.facts store.new).failures ≡ (S.facts store.old).failures) }
         ensures told { IfErr (table_answer_of result) (λ e. RefusesTable e (S.facts store.old) (S.facts store.new) number (IsFrameDamaged K.cmp) IsFrameUnsupported) }
-        // A frame is refused only where one of its blocks is too long.
+        // A frame is refused only if one of its blocks is too long.
         ensures refused { IfErr (table_answer_of result) (λ e. RefusesTable e (S.facts store.old) (S.facts store.new) number
             (λ file. (frame : Frame) → IsFrame K.cmp file frame → ⊥) (λ file. (frame : Frame) (is : IsFrame K.cmp file frame) → IsOversized K.cmp file frame is)) }
         ensures capacity { self.new.capacity ≡ self.old.capacity }
@@ -114,7 +117,8 @@ impl<K: KeyOrder> TableCache<K> {
         self.fetch(alloc, store, number)
     }
 
-    /// Closes the table of this number, where it is kept: its file is to be removed (LevelDB's `TableCache::Evict`).
+    /// Closes the table of this number, if it is kept: its file must be removed (LevelDB's
+    /// `TableCache::Evict`).
     pub fn evict(&mut self, number: u64)
         ensures gone { kept_table_at self.new.tables number ≡ None }
         ensures kept { (kept : KeptTable) → Contains self.new.tables kept → Contains self.old.tables kept }
@@ -126,7 +130,8 @@ impl<K: KeyOrder> TableCache<K> {
         evict_from(tables, number);
     }
 
-    // The table that is kept or, where none is, one that is opened, and kept where there is memory to keep it.
+    // The table that is kept or, if none is, one that is opened, and kept if there is memory to
+    // keep it.
     fn fetch<S: Store>(
         &mut self,
         alloc: Global,
@@ -165,7 +170,7 @@ impl<K: KeyOrder> TableCache<K> {
         find_in(tables, number)
     }
 
-    // Keeps the table, where there is memory for it.
+    // Keeps the table, if there is memory for it.
     fn keep(&mut self, number: u64, table: &Rc<Table<K>>)
         ensures kept { (kept : KeptTable) → Contains self.new.tables kept → Contains self.old.tables kept ⊎ IsKeptOf kept number table.now.value }
         ensures order { IsTablePut number table.now.value self.old.capacity self.old.tables self.new.tables }
@@ -196,7 +201,7 @@ fn find_in<K: KeyOrder>(
     Ok(Some(table))
 }
 
-// Keeps the table, where there is memory for it.
+// Keeps the table, if there is memory for it.
 fn keep_in<K: KeyOrder>(tables: &mut LruCache<u64, Rc<Table<K>>>, number: u64, table: &Rc<Table<K>>)
     ensures kept { (kept : KeptTable) → Contains (tables_in tables.new.entries) kept → Contains (tables_in tables.old.entries) kept ⊎ IsKeptOf kept number table.now.value }
     ensures order { IsTablePut number table.now.value tables.old.cap (tables_in tables.old.entries) (tables_in tables.new.entries) }
@@ -219,8 +224,8 @@ fn evict_from<K: KeyOrder>(tables: &mut LruCache<u64, Rc<Table<K>>>, number: u64
     let _table = tables.pop(&number);
 }
 
-/// Law: what is kept stays right while tables come into use under new numbers and go out of use, and the files of those in
-/// use stay.
+/// Proves that what is kept stays right while tables come into use under new numbers and go out of
+/// use, and the files of those in use stay.
 pub fn tables_last()
     ensures { TablesLast }
 {}

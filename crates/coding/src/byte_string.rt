@@ -8,9 +8,9 @@ ghost use Rattle.std.specs.Prelude.{nat_eq};
 use std::alloc::{AllocError, Global};
 use std::marker::Model;
 
-/// An owned byte string, of any length and any bytes. Contracts see it as the list of its bytes, so
-/// that definitions compare contents. It is made from a `Vec` and given back as one without taking
-/// memory.
+/// Holds an owned byte string, of any length and any bytes. Contracts see it as the list of its
+/// bytes, so that definitions compare contents. It is made from a `Vec` and returned as one without
+/// taking memory.
 #[derive(Debug, Drop)]
 pub struct Bytes {
     bytes: Vec<u8>,
@@ -27,21 +27,21 @@ impl Model for Bytes {
 impl Bytes {
     ghost use Rattle.std.specs.Prelude.{◌≡◌, ◌==◌, length, IfOk};
 
-    /// A copy of bytes that are kept elsewhere. Refused only where there is no memory for it.
+    /// Copies bytes that are kept elsewhere. It fails only out of memory.
     pub fn copied_from(alloc: Global, bytes: &[u8]) -> Result<Self, AllocError>
         ensures { IfOk result (λ copy. copy ≡ bytes.now) }
     {
         Ok(Bytes::from_vec(Vec::from_slice(alloc, bytes)?))
     }
 
-    /// The bytes of the vector, which is taken over as it is, with its room.
+    /// Makes a byte string of the vector's bytes: the vector is taken over as it is, with its room.
     pub fn from_vec(bytes: Vec<u8>) -> Self
         ensures { result ≡ bytes.items }
     {
         Bytes { bytes }
     }
 
-    /// The vector that holds the bytes.
+    /// Returns the vector that holds the bytes.
     pub fn into_vec(self) -> Vec<u8>
         ensures { result.items ≡ self }
     {
@@ -49,21 +49,21 @@ impl Bytes {
         bytes
     }
 
-    /// The bytes, borrowed.
+    /// Returns the bytes, borrowed.
     pub fn as_slice(&self) -> &[u8]
         ensures { result.now ≡ self.now }
     {
         self.bytes.as_slice()
     }
 
-    /// How many bytes there are.
+    /// Returns how many bytes there are.
     pub fn len(&self) -> usize
         ensures { result ≡ length self.now }
     {
         self.bytes.len()
     }
 
-    /// Whether there are no bytes.
+    /// Returns whether there are no bytes.
     pub fn is_empty(&self) -> bool
         ensures { result ≡ (length self.now == 0) }
     {
@@ -71,7 +71,7 @@ impl Bytes {
     }
 }
 
-/// Byte strings are equal where they have the same bytes in the same order.
+/// Byte strings are equal if they have the same bytes in the same order.
 impl PartialEq for Bytes {
     ghost eq = { pointwise nat_eq };
 

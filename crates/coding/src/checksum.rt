@@ -12,8 +12,8 @@ use tables::SHIFTED_BY_8;
 // What the stored form adds to the rotated checksum (`kMaskDelta`).
 const MASK_DELTA: u32 = 0xA282_EAD8;
 
-/// The checksum of the bytes of `front` followed by those of `back`. A log record's type and data,
-/// and a block and its type byte, lie in two places: they are joined here without a copy.
+/// Returns the checksum of the bytes of `front` followed by those of `back`. A log record's type
+/// and data, and a block and its type byte, lie in two places: they are joined here without a copy.
 pub fn crc32c(front: &[u8], back: &[u8]) -> u32
     ensures { result ≡ checksum (front.now ++ back.now) }
 {
@@ -21,16 +21,16 @@ pub fn crc32c(front: &[u8], back: &[u8]) -> u32
     register_over(register, back) ^ 0xFFFF_FFFF
 }
 
-/// The form in which logs and tables store a checksum, since the checksum of bytes that hold
-/// checksums of themselves would tell little (LevelDB's `crc32c::Mask`).
+/// Returns the form in which logs and tables store a checksum, since the checksum of bytes that
+/// hold checksums of themselves would tell little (LevelDB's `crc32c::Mask`).
 pub fn mask(crc: u32) -> u32
     ensures { result ≡ masked crc }
 {
     crc.rotate_right(15).wrapping_add(MASK_DELTA)
 }
 
-/// The checksum whose stored form this is: every number is the stored form of one (LevelDB's
-/// `crc32c::Unmask`).
+/// Returns the checksum whose stored form this is: every number is the stored form of one
+/// (LevelDB's `crc32c::Unmask`).
 pub fn unmask(stored: u32) -> u32
     ensures { masked result ≡ stored }
 {

@@ -8,10 +8,10 @@ ghost use Rattle.coding.specs.declared.error.DbError.TheVariants.{OutOfMemory};
 use std::alloc::{AllocError, AllocFailed};
 use thiserror::Error;
 
-/// Which kind of file was found damaged (the names of LevelDB's `doc/impl.md`).
+/// Tells which kind of file was found damaged (the names of LevelDB's `doc/impl.md`).
 #[derive(Clone, Copy, Debug, PartialEq, Eq)]
 pub enum FileKind {
-    /// `CURRENT`, which names the live manifest.
+    /// `CURRENT`, which names the current manifest.
     Current,
     /// A manifest: the log of version edits.
     Manifest,
@@ -23,7 +23,7 @@ pub enum FileKind {
     Directory,
 }
 
-/// What in the bytes or files contradicts the format.
+/// Tells what in the bytes or files contradicts the format.
 #[derive(Clone, Copy, Debug, PartialEq, Eq)]
 pub enum Damage {
     /// The bytes end too soon, or a length runs past its end.
@@ -42,7 +42,8 @@ pub enum Damage {
     Missing,
 }
 
-/// What LevelDB's format allows and this database leaves out, or what is past one of its limits.
+/// Tells what LevelDB's format allows and this database leaves out, or what is past one of its
+/// limits.
 #[derive(Clone, Copy, Debug, PartialEq, Eq)]
 pub enum Feature {
     /// A block whose type byte isn't 0: it is compressed.
@@ -57,8 +58,8 @@ pub enum Feature {
     Tables,
 }
 
-/// Why bytes weren't read. It doesn't name the file: the layer that knows it makes a `DbError` of
-/// this.
+/// Tells why bytes weren't read. It doesn't name the file: the layer that knows it makes a
+/// `DbError` of this.
 #[derive(Clone, Copy, Debug, PartialEq, Eq)]
 pub enum ReadError {
     /// There was no memory for what was to be read. It says nothing of the bytes.
@@ -69,7 +70,7 @@ pub enum ReadError {
     Unsupported(Feature),
 }
 
-/// Why a call was refused. Each refusal has a number and a name, by which scripts and reports know
+/// Tells why a call failed. Each error has a number and a name, by which scripts and reports know
 /// it; LevelDB's `include/leveldb/status.h` has five codes for the same.
 #[derive(Clone, Copy, Debug, PartialEq, Eq, Error)]
 pub enum DbError {
@@ -79,7 +80,7 @@ pub enum DbError {
     /// A call of the store failed: its count of failures rose during this call.
     #[error("the store failed")]
     Io,
-    /// A database that must exist was to be opened, and there is none.
+    /// A database was to be opened that must exist, and doesn't.
     #[error("there is no database")]
     NoDatabase,
     /// A new database was to be made, and there is a `CURRENT` already.
@@ -141,8 +142,8 @@ impl DbError {
     ghost use Rattle.coding.specs.Errors.{number_of, name_of};
     ghost use Rattle.std.specs.Prelude.{◌≡◌};
 
-    /// The number of the refusal, from 1 to 20, whatever the file and the damage. Numbers are never
-    /// given anew.
+    /// Returns the number of the error, from 1 to 20, whatever the file and the damage. Numbers are
+    /// never reused.
     pub fn number(&self) -> u8
         ensures { result ≡ number_of self.now }
     {
@@ -170,7 +171,7 @@ impl DbError {
         }
     }
 
-    /// The name of the refusal, as the variant is written, without the file and the damage.
+    /// Returns the name of the error, as the variant is written, without the file and the damage.
     pub fn name(&self) -> &'static str
         ensures { result.now ≡ name_of self.now }
     {

@@ -7,7 +7,7 @@ ghost use Rattle.coding.specs.Fixed.{fixed32, fixed64};
 use byteorder::{ByteOrder, LittleEndian};
 use std::alloc::AllocError;
 
-/// Appends a number of four bytes. Refused only where there is no memory for them.
+/// Appends a number of four bytes. It fails only out of memory.
 pub fn put_fixed32(out: &mut Vec<u8>, value: u32) -> Result<(), AllocError>
     ensures ok { OnOk result (out.new.items ≡ out.old.items ++ fixed32 value) }
     ensures err { OnErr result (out.new.items ≡ out.old.items) }
@@ -17,7 +17,7 @@ pub fn put_fixed32(out: &mut Vec<u8>, value: u32) -> Result<(), AllocError>
     out.extend_from_slice(&bytes)
 }
 
-/// Appends a number of eight bytes. Refused only where there is no memory for them.
+/// Appends a number of eight bytes. It fails only out of memory.
 pub fn put_fixed64(out: &mut Vec<u8>, value: u64) -> Result<(), AllocError>
     ensures ok { OnOk result (out.new.items ≡ out.old.items ++ fixed64 value) }
     ensures err { OnErr result (out.new.items ≡ out.old.items) }
@@ -27,8 +27,8 @@ pub fn put_fixed64(out: &mut Vec<u8>, value: u64) -> Result<(), AllocError>
     out.extend_from_slice(&bytes)
 }
 
-/// Reads the number of four bytes at the front. Bytes may follow it; `None` where there are fewer
-/// than four.
+/// Reads the number of four bytes at the front. Bytes may follow it; `None` if there are fewer than
+/// four.
 pub fn get_fixed32(bytes: &[u8]) -> Option<u32>
     ensures range { IfSome result (λ value. value < 2 ^ 32) }
     ensures found { IfSome result (λ value. take 4 bytes.now ≡ fixed32 value) }
@@ -40,7 +40,7 @@ pub fn get_fixed32(bytes: &[u8]) -> Option<u32>
     Some(LittleEndian::read_u32(bytes))
 }
 
-/// Reads the number of eight bytes at the front. Bytes may follow it; `None` where there are fewer
+/// Reads the number of eight bytes at the front. Bytes may follow it; `None` if there are fewer
 /// than eight.
 pub fn get_fixed64(bytes: &[u8]) -> Option<u64>
     ensures range { IfSome result (λ value. value < 2 ^ 64) }

@@ -1,5 +1,6 @@
 //! What every file format of the database stands on: numbers of fixed and varying width,
-//! length-prefixed strings, the checksum CRC-32C, byte strings, and why bytes or calls are refused.
+//! length-prefixed strings, the checksum CRC-32C, and byte strings. Also why bytes or calls are
+//! refused.
 //!
 //! The encodings are LevelDB's (its `util/coding.h` and `util/crc32c.h`). A number of varying width
 //! is read in its shortest encoding only, so that no two byte strings stand for one number.

@@ -7,7 +7,7 @@ ghost use Rattle.coding.specs.Varint.{IsString};
 use crate::varint::{get_varint32, put_varint32};
 use std::alloc::AllocError;
 
-/// Appends a length-prefixed string. Refused only where there is no memory for it.
+/// Appends a length-prefixed string. It fails only out of memory.
 pub fn put_string(out: &mut Vec<u8>, text: &[u8]) -> Result<(), AllocError>
     requires { length text.now < 2 ^ 32 }
     ensures ok { OnOk result ((bytes : List ℕ) × IsString bytes text.now × (out.new.items ≡ out.old.items ++ bytes)) }
@@ -22,9 +22,9 @@ pub fn put_string(out: &mut Vec<u8>, text: &[u8]) -> Result<(), AllocError>
     put
 }
 
-/// Reads the length-prefixed string at the front: its bytes without the length, and what stands
-/// behind them, both borrowed. `None` where the length is cut or not in its shortest encoding, or
-/// where fewer bytes follow it.
+/// Reads the length-prefixed string at the front: its bytes without the length, and what follows
+/// them, both borrowed. `None`: the length is cut or not in its shortest encoding, or fewer bytes
+/// follow it.
 pub fn get_string(bytes: &[u8]) -> Option<(&[u8], &[u8])>
     ensures found { IfSome result (λ found. (front : List ℕ) × IsString front found.0.now × (bytes.now ≡ front ++ found.1.now)) }
     ensures none { IfNone result ((front text rest : List ℕ) → IsString front text → bytes.now ≡ front ++ rest → ⊥) }

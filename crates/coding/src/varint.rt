@@ -6,8 +6,7 @@ ghost use Rattle.coding.specs.Varint.{IsVarint, AppendsVarint};
 
 use std::alloc::AllocError;
 
-/// Appends a number of at most 32 bits, in one to five bytes. Refused only where there is no memory
-/// for them.
+/// Appends a number of at most 32 bits, in one to five bytes. It fails only out of memory.
 #[inline(always)]
 pub fn put_varint32(out: &mut Vec<u8>, value: u32) -> Result<(), AllocError>
     ensures ok { OnOk result (AppendsVarint out.old.items out.new.items value) }
@@ -16,8 +15,7 @@ pub fn put_varint32(out: &mut Vec<u8>, value: u32) -> Result<(), AllocError>
     put_varint64(out, u64::from(value))
 }
 
-/// Appends a number of at most 64 bits, in one to ten bytes. Refused only where there is no memory
-/// for them.
+/// Appends a number of at most 64 bits, in one to ten bytes. It fails only out of memory.
 #[inline(always)]
 pub fn put_varint64(out: &mut Vec<u8>, value: u64) -> Result<(), AllocError>
     ensures ok { OnOk result (AppendsVarint out.old.items out.new.items value) }
@@ -44,7 +42,7 @@ fn put_long_varint(out: &mut Vec<u8>, value: u64) -> Result<(), AllocError>
     pushed
 }
 
-// Appends a number, or a beginning of it where memory runs out.
+// Appends a number, or a beginning of it if memory runs out.
 fn push_varint(out: &mut Vec<u8>, value: u64) -> Result<(), AllocError>
     ensures ok { OnOk result (AppendsVarint out.old.items out.new.items value) }
     ensures front { take (length out.old.items) out.new.items ≡ out.old.items }
@@ -59,8 +57,8 @@ fn push_varint(out: &mut Vec<u8>, value: u64) -> Result<(), AllocError>
 }
 
 /// Reads the number of at most 32 bits at the front: its value, and how many bytes it takes. Bytes
-/// may follow it. `None` where the bytes end before it does, where it isn't in its shortest
-/// encoding (as `80 00`, which LevelDB reads as 0), or where it is 2^32 or more.
+/// may follow it. `None`: the bytes end before it does, it isn't in its shortest encoding (as `80
+/// 00`, which LevelDB reads as 0), or it is 2^32 or more.
 pub fn get_varint32(bytes: &[u8]) -> Option<(u32, usize)>
     ensures range { IfSome result (λ found. found.0 < 2 ^ 32) }
     ensures length { IfSome result (λ found. found.1 ≤ length bytes.now) }
@@ -72,8 +70,8 @@ pub fn get_varint32(bytes: &[u8]) -> Option<(u32, usize)>
 }
 
 /// Reads the number of at most 64 bits at the front: its value, and how many bytes it takes. Bytes
-/// may follow it. `None` where the bytes end before it does, where it isn't in its shortest
-/// encoding, or where it is 2^64 or more.
+/// may follow it. `None`: the bytes end before it does, it isn't in its shortest encoding, or it is
+/// 2^64 or more.
 pub fn get_varint64(bytes: &[u8]) -> Option<(u64, usize)>
     ensures range { IfSome result (λ found. found.0 < 2 ^ 64) }
     ensures length { IfSome result (λ found. found.1 ≤ length bytes.now) }
@@ -83,7 +81,7 @@ pub fn get_varint64(bytes: &[u8]) -> Option<(u64, usize)>
     varint_at(bytes, u64::MAX)
 }
 
-// The number at the front and how many bytes it takes, where it is at most `limit`.
+// The number at the front and how many bytes it takes, if it is at most `limit`.
 fn varint_at(bytes: &[u8], limit: u64) -> Option<(u64, usize)>
     ensures length { IfSome result (λ found. found.1 ≤ length bytes.now) }
     ensures limit { IfSome result (λ found. found.0 ≤ limit) }
@@ -114,7 +112,7 @@ fn varint_at(bytes: &[u8], limit: u64) -> Option<(u64, usize)>
     }
 }
 
-/// Law: no encoding of a number begins that of another,
+/// Proves that no encoding of a number begins that of another,
 /// and each number has one. So what was written is read again, whatever follows it.
 pub fn one_varint()
     ensures { (a b x y : List ℕ) (m n : ℕ) → IsVarint a m → IsVarint b n → a ++ x ≡ b ++ y → (a ≡ b) × (m ≡ n) }

@@ -250,7 +250,7 @@ keeps_needed entries needed sequences deep part =
       ];
     })
 
--- ---- one sequence
+-- ---- one sequence number
 
 contains-one : (last q : ℕ) → Contains (last ∷ []) q → q ≡ last
 contains-one last q (zero, lt, e) = sym e

@@ -202,7 +202,8 @@ well-deletes user (s ∷ sequences) = (refl, well-deletes user sequences)
 
 -- ---- all that came, and what is left
 
--- What is written for an entry is needed of what came, and so is all that was kept before: they are many only where those are.
+-- What is written for an entry is needed of what came, and so is all that was kept before: they are
+-- many only where those are.
 pub large-chosen : (deep : List ℕ → Bool) (e : Choosing) (user released : List ℕ) (choice : Choice) (cmp : List ℕ → List ℕ → Ordering) (pairs : List Pair) (came rest kept : List InternalEntry) (entry : InternalEntry)
     → choice ≡ Write → entry.key.user ≡ user → released ≡ e.released → ArePairs pairs kept → AllByRecursion IsWellKept kept
     → Chooses cmp deep e (map entry_of came ++ entry_of entry ∷ []) (map entry_of kept ++ written_for choice e.released (entry_of entry))

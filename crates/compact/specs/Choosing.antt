@@ -22,13 +22,14 @@ ComesBehind cmp entries next = (entry : Entry) → Among entries entry → Prece
 -- ---- what is kept between two entries
 
 pub record Choosing : Type 0 where
-  -- the sequences whose views are to be kept, none below the one before
+  -- the sequence numbers whose views are to be kept, none below the one before
   pub snapshots : List ℕ
   -- the user key at hand
   pub key : List ℕ
   -- how many of the snapshots are below all entries of this key that came
   pub unseen : ℕ
-  -- the sequences of the deletes of this key that will be needed if a put of it is, the newest first
+  -- the sequence numbers of the deletes of this key that will be needed if a put of it is, the
+  -- newest first
   pub waiting : List ℕ
   -- those that the last entry showed to be needed
   pub released : List ℕ
@@ -48,7 +49,8 @@ pub record IsChosen (deep : List ℕ → Bool) (c : Choosing) (came chosen : Lis
   pub within : c.unseen ≤ length c.snapshots
   pub below : (k : ℕ) → k < c.unseen → (entry : Entry) → Among came entry → entry.key ≡ c.key → slice_index c.snapshots k < entry.sequence
   pub above : (k : ℕ) → c.unseen ≤ k → k < length c.snapshots → (entry : Entry) × Among came entry × (entry.key ≡ c.key) × (entry.sequence ≤ slice_index c.snapshots k)
-  -- behind the last entry of this key that was chosen, what the snapshots see are the deletes that wait
+  -- behind the last entry of this key that was chosen, what the snapshots see are the deletes that
+  -- wait
   pub settled : List Entry
   pub others : List Entry
   pub parts : came ≡ settled ++ others

@@ -5,13 +5,14 @@ use Rattle.ikey.specs.declared.entry.Entry.{Entry}
 use Rattle.compact.specs.Needed.{AreNeeded}
 use Rattle.ikey.specs.Views.{Among, Contents, IsView}
 
--- Of a key of these entries the others are newer, or the key is one that files below the output level cover.
+-- Of a key of these entries the others are newer, or the key is one that files below the output
+-- level cover.
 abbrev pub AreNewerOrDeep : List Entry → List Entry → (List ℕ → Bool) → Type 0
 AreNewerOrDeep entries others deep =
     (entry other : Entry) → Among entries entry → Among others other → other.key ≡ entry.key → (entry.sequence < other.sequence) ⊎ IsTrue (deep entry.key)
 
--- Of these entries a reader at this sequence sees what one of the sequences sees: it is one of them, or above the last of
--- them as all entries aren't.
+-- Of these entries a reader at this sequence number sees what one of the sequence numbers sees: it
+-- is one of them, or above the last of them as all entries aren't.
 abbrev pub SeesAsOne : List Entry → List ℕ → ℕ → Type 0
 SeesAsOne entries sequences p =
     (q : ℕ) × Contains sequences q × (q ≤ p) × ((entry : Entry) → Among entries entry → entry.sequence ≤ p → entry.sequence ≤ q)
@@ -29,7 +30,7 @@ KeepsNeeded =
     (entries needed : List Entry) (sequences : List ℕ) (deep : List ℕ → Bool)
     → AreNeeded entries sequences deep needed → AreNeeded needed sequences deep needed
 
--- no two entries share key and sequence
+-- no two entries share key and sequence number
 abbrev pub AreDistinct : List Entry → Type 0
 AreDistinct entries = (entry other : Entry) → Among entries entry → Among entries other → other.key ≡ entry.key → other.sequence ≡ entry.sequence → other ≡ entry
 
@@ -39,7 +40,7 @@ pub record ArePairsOf (map : Contents) (entries : List Entry) : Type 0 where
   pub all : (key value : List ℕ) → get map key ≡ Some value → (entry : Entry) × Among entries entry × (entry.key ≡ key) × (entry.value ≡ Some value)
   pub once : (entry other : Entry) → Among entries entry → Among entries other → other.key ≡ entry.key → other ≡ entry
 
--- With one sequence, that of the view, and no files below, what is needed is the map itself.
+-- With one sequence number, that of the view, and no files below, what is needed is the map itself.
 abbrev pub LeavesPairs : Type 0
 LeavesPairs =
     (entries needed : List Entry) (deep : List ℕ → Bool) (last : ℕ) (map : Contents)

@@ -14,8 +14,9 @@ AreTurns facts store_of with_store moves mine zero old new = new ≡ old
 AreTurns {H} facts store_of with_store moves mine (suc n) old new =
     (between : H) × IsTurn facts store_of with_store moves mine old between × AreTurns facts store_of with_store moves mine n between new
 
--- Beside the tables that it writes, a job changes of a source what moves of its cursor over the same tables change, whatever the
--- store returns. Its cursor goes over no further tables, and reads of each source what it read.
+-- Beside the tables that it writes, a job changes of a source what moves of its cursor over the
+-- same tables change, whatever the store returns. Its cursor goes over no further tables, and reads
+-- of each source what it read.
 pub record LeavesOthers {C H S : Type 0} (facts : S → Facts) (store_of : H → S) (with_store : H → S → H) (keeps : C → H → H → Type 0) (leaves : (ℕ → Type 0) → H → H → Type 0) (over : C → ℕ → Type 0)
     (mine : ℕ → Type 0) (old new : C) (before after : H) : Type 0 where
   pub turns : (n : ℕ) × AreTurns facts store_of with_store (leaves (over old)) mine n before after

@@ -40,8 +40,9 @@ kept_delete user sequence = record { key = record { user = user; sequence = sequ
 abbrev pub IsWellKept : InternalEntry → Type 0
 IsWellKept entry = entry.value ≡ value_kept (value_of entry.key.kind entry.value)
 
--- These entries of the inputs came, and of them those were written that are needed. The last has this key, and none comes
--- behind it. Each came before all that came later, whatever the name of the order is.
+-- These entries of the inputs came, and of them those were written that are needed. The last has
+-- this key, and none comes behind it. Each came before all that came later, whatever the name of
+-- the order is.
 pub record IsMerging (cmp : Cmp) (deep : List ℕ → Bool) (last : List ℕ) (c : Choosing) (w : TablesWritten) (facts : Facts) (next : ℕ) (came : List InternalEntry) : Type 0 where
   pub written : List Pair
   pub kept : List InternalEntry
@@ -53,7 +54,7 @@ pub record IsMerging (cmp : Cmp) (deep : List ℕ → Bool) (last : List ℕ) (c
   pub bound : (entry : Entry) → Among (map entry_of came) entry → (key : Key) × IsKey last key × IsUpTo cmp entry key
   pub sorted : (name : List ℕ) → AreSorted (order_of name cmp) (map entry_of came)
 
--- each entry of a user key has a sequence of its own: no two differ in their kind alone
+-- each entry of a user key has a sequence number of its own: no two differ in their kind alone
 abbrev pub HaveOwnSequences : List InternalEntry → Type 0
 HaveOwnSequences entries = (entry other : InternalEntry) → Among entries entry → Among entries other → entry.key.user ≡ other.key.user → entry.key.sequence ≡ other.key.sequence → entry.key.kind ≡ other.key.kind
 
@@ -67,8 +68,8 @@ HasPassed lists cursor source came rest = lists cursor source (listed (came ++ r
 abbrev pub AreDisjoint : (ℕ → Type 0) → (ℕ → Type 0) → Type 0
 AreDisjoint first second = (number : ℕ) → first number → second number → ⊥
 
--- What changes no file but those of tables with such numbers, of which the source keeps nothing beside its store, keeps what
--- the cursor reads.
+-- What changes no file but those of tables with such numbers, of which the source keeps nothing
+-- beside its store, keeps what the cursor reads.
 abbrev pub ReadsApart : {C H S : Type 0} → (S → Facts) → (H → S) → (H → S → H) → (H → ℕ → Type 0) → (C → H → H → Type 0) → C → (ℕ → Type 0) → Type 0
 ReadsApart {C} {H} {S} facts store_of with_store gathers keeps cursor mine =
     (source : H) (store : S) → IsTrue (facts store).faithful
@@ -76,8 +77,8 @@ ReadsApart {C} {H} {S} facts store_of with_store gathers keeps cursor mine =
 
 -- ---- both
 
--- These entries came to the job, and those are left: what is needed of the former is written, and what is to be written
--- is nothing that is read, or that is kept of a table beside the store.
+-- These entries came to the job, and those are left: what is needed of the former is written, and
+-- what is to be written is nothing that is read, or that is kept of a table beside the store.
 pub record IsJob {C H S : Type 0} (cmp : Cmp) (deep : List ℕ → Bool) (facts : S → Facts) (store_of : H → S) (with_store : H → S → H) (gathers : H → ℕ → Type 0) (lists : C → H → Listed → Type 0) (keeps : C → H → H → Type 0) (over : C → ℕ → Type 0)
     (last : List ℕ) (cursor : C) (c : Choosing) (w : TablesWritten) (source : H) (next : ℕ) (came rest : List InternalEntry) : Type 0 where
   pub merging : IsMerging cmp deep last c w (facts (store_of source)) next came
@@ -87,7 +88,8 @@ pub record IsJob {C H S : Type 0} (cmp : Cmp) (deep : List ℕ → Bool) (facts 
   pub ungathered : AreDisjoint (gathers source) (IsMine w next)
   pub outside : AreDisjoint (over cursor) (IsMine w next)
 
--- The same of a job as its fields have it, by what the traits say of its store, of the source that has it and of the cursor.
+-- The same of a job as its fields have it, by what the traits say of its store, of the source that
+-- has it and of the cursor.
 abbrev pub IsBetween : {K C H S : Type 0} → Cmp → (List ℕ → Bool) → OfStore S → OfSource H S → OfCursor C K H → Job K C → H → ℕ → List InternalEntry → List InternalEntry → Type 0
 IsBetween cmp deep of_store of_source of_cursor job source next came rest =
     IsJob cmp deep of_store.facts of_source.store_of of_source.with_store of_source.gathers of_cursor.lists of_cursor.keeps of_cursor.over
@@ -97,7 +99,8 @@ IsBetween cmp deep of_store of_source of_cursor job source next came rest =
 abbrev pub KeepsMine : TablesWritten → ℕ → TablesWritten → ℕ → Type 0
 KeepsMine old next new more = (number : ℕ) → IsNumberAtHand new number → IsMineUpTo old next more number
 
--- A step with this budget has taken the front of what was left: as many entries as the budget has, one for 0, or all.
+-- A step with this budget has taken the front of what was left: as many entries as the budget has,
+-- one for 0, or all.
 pub record IsStepOf (budget : ℕ) (progress : Progress) (front back : List InternalEntry) : Type 0 where
   pub long : length front ≡ progress.merged
   pub most : progress.merged ≤ max budget 1

@@ -6,17 +6,19 @@ ghost use Rattle.compact.specs.Deeper.{is_covered_below};
 use ikey::KeyOrder;
 use versions::Version;
 
-/// Which user keys the files below the output level of a compaction may have: a delete of another key need not be
-/// kept for their sake (LevelDB's db/version_set.cc, Compaction::IsBaseLevelForKey).
+/// Tells which user keys the files below the output level of a compaction may have: a delete of
+/// another key need not be kept for their sake (LevelDB's db/version_set.cc,
+/// Compaction::IsBaseLevelForKey).
 pub trait DeeperFiles {
     ghost covers: { Self → List ℕ → Bool };
 
-    /// Whether the key stands in the range of one of the files.
+    /// Returns whether the key stands in the range of one of the files.
     fn covers(&self, user: &[u8]) -> bool
         ensures { result ≡ covers self.now user.now };
 }
 
-/// The tables of a version below a level, which is that to which a compaction of the version writes.
+/// Holds the tables of a version below a level, which is that to which a compaction of the version
+/// writes.
 #[derive(Drop)]
 pub struct FilesBelow<'a, K: KeyOrder> {
     /// The version.

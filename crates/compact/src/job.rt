@@ -23,7 +23,7 @@ use std::cmp::Ordering;
 use store::{HasStore, Store};
 use versions::JobPlan;
 
-/// What a step of a job has done.
+/// Tells what a step of a job has done.
 #[derive(Clone, Copy, Debug, PartialEq, Eq)]
 pub struct Progress {
     /// How many entries of the inputs it has merged.
@@ -32,8 +32,9 @@ pub struct Progress {
     pub ended: bool,
 }
 
-/// A compaction: it merges its inputs, and writes what must be kept of them into new tables. Its cursor is one over all
-/// of its inputs, as `Merge`; with the order K, it reads from the source that each call is lent.
+/// Holds a compaction: it merges its inputs, and writes what must be kept of them into new tables.
+/// Its cursor is one over all of its inputs, as `Merge`; with the order K, it reads from the source
+/// that each call is lent.
 #[derive(Drop)]
 pub struct Job<K: KeyOrder, C> {
     plan: JobPlan,
@@ -65,8 +66,9 @@ impl<K: KeyOrder, C: Drop> Job<K, C> {
     ghost use Rattle.compact.specs.Rooms.{AreLarge};
     ghost use Rattle.table.specs.Reading.{Reads};
 
-    /// A job that has merged nothing. Its cursor lists the entries of the plan's inputs, and `snapshots` are the sequence
-    /// numbers whose views are to be kept, rising: those of the live snapshots and the last one used.
+    /// Starts a job that has merged nothing. Its cursor lists the entries of the plan's inputs.
+    /// `snapshots` are the sequence numbers whose views must be kept, rising: those of the live
+    /// snapshots and the last one used.
     pub fn start<S: Store, H: HasStore<S>>(
         alloc: Global,
         source: &mut H,
@@ -116,10 +118,10 @@ impl<K: KeyOrder, C: Drop> Job<K, C> {
         })
     }
 
-    /// Merges so many entries, or one for 0, or all that are left where those are fewer. `deeper` is to be the same in
-    /// each step. Corrupt where two entries of a user key have one sequence number, or where a block of the inputs
-    /// is torn. After an `Err` the job is to be given up: the files that it wrote are no part of the database, and its
-    /// inputs are as they were.
+    /// Merges so many entries, or one for 0, or all that are left if those are fewer. `deeper` must
+    /// be the same in each step. Corrupt: two entries of a user key have one sequence number, or a
+    /// block of the inputs is torn. After an `Err` the job must be given up: the files that it
+    /// wrote are no part of the database, and its inputs are as they were.
     pub fn step<S: Store, H: HasStore<S>, D: DeeperFiles>(
         &mut self,
         alloc: Global,
@@ -183,7 +185,8 @@ impl<K: KeyOrder, C: Drop> Job<K, C> {
         })
     }
 
-    /// Ends a job whose inputs have ended, with the edit that puts its outputs in the place of its inputs.
+    /// Ends a job whose inputs have ended, with the edit that puts its outputs in the place of its
+    /// inputs.
     pub fn finish<S: Store>(
         self,
         alloc: Global,
@@ -227,14 +230,14 @@ impl<K: KeyOrder, C: Drop> Job<K, C> {
         Ok(edit)
     }
 
-    /// What it compacts.
+    /// Returns what it compacts.
     pub fn plan(&self) -> &JobPlan
         ensures { result.now ≡ self.now.plan }
     {
         &self.plan
     }
 
-    /// Whether the table of this number is one that the job writes.
+    /// Returns whether the table of this number is one that the job writes.
     pub fn writes(&self, number: u64) -> bool
         ensures { MatchBool result (IsOwn self.now.outputs number) (IsOwn self.now.outputs number → ⊥) }
     {
@@ -328,8 +331,8 @@ fn kept_value(kind: Kind, value: &[u8]) -> &[u8]
     }
 }
 
-// Whether the key stands behind the last one: its user key is above, or the same and its sequence number below. No two
-// entries of a directory share both.
+// Whether the key comes after the last one: its user key is above, or the same and its sequence
+// number below. No two entries of a directory share both.
 fn comes_behind<K: KeyOrder>(last: &[u8], next: &[u8]) -> bool
     ensures behind { result ≡ true → (last_key next_key : Key) (entry behind : Entry) → IsKey last.now last_key → IsKey next.now next_key
         → IsUpTo K.cmp entry last_key → behind.key ≡ next_key.user → behind.sequence ≡ next_key.sequence → Precedes K.cmp entry behind }

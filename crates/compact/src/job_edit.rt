@@ -10,7 +10,8 @@ use edits::{Edit, Field, PlacedTable, TableFile};
 use std::alloc::{AllocError, Global};
 use versions::JobPlan;
 
-/// The edit that puts these tables in the place of the plan's inputs, its fields in our writer's order.
+/// Builds the edit by which these tables replace the plan's inputs, with its fields in our writer's
+/// order.
 pub fn edit_of(
     alloc: Global,
     plan: JobPlan,

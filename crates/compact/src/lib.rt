@@ -1,5 +1,5 @@
-//! Compaction: which entries of some tables have to be kept, and jobs that write them into new tables
-//! (LevelDB's doc/impl.md, "Compactions").
+//! Compaction: which entries of some tables have to be kept, and jobs that write them into new
+//! tables (LevelDB's doc/impl.md, "Compactions").
 #![tactic(auto)]
 
 mod chosen;

@@ -19,7 +19,7 @@ use std::marker::Model;
 use store::Store;
 use table::{TableBuilder, sync};
 
-/// A table that is being written, and what an edit will say of it.
+/// Holds a table that is being written, and what an edit will say of it.
 #[derive(Drop)]
 pub struct NewTable<K: KeyOrder> {
     number: u64,
@@ -56,8 +56,8 @@ impl<K: KeyOrder> NewTable<K> {
     ghost use Rattle.table.specs.Writing.{Writes, NeedsLongBlock, NeedsLongEnds};
     ghost use Rattle.compact.specs.Outputs.{table_name, IsFilling, IsSaidOf, IsSynced, ClosesTable, RefusesEntry};
 
-    /// A table of this number without entries, of which nothing is written yet. The first entry is to have the smallest
-    /// key.
+    /// Begins a table of this number without entries, of which nothing is written yet. The first
+    /// entry must have the smallest key.
     pub fn new(
         alloc: Global,
         number: u64,
@@ -78,15 +78,15 @@ impl<K: KeyOrder> NewTable<K> {
         })
     }
 
-    /// Its number.
+    /// Returns its number.
     pub fn number(&self) -> u64
         ensures { result ≡ self.now.number }
     {
         self.number
     }
 
-    /// Adds an entry. Corrupt where its key isn't an internal key above the last one's. After an `Err` the table is of no
-    /// use.
+    /// Adds an entry. Corrupt: its key isn't an internal key above the last one's. After an `Err`
+    /// the table can't be used.
     pub fn add<S: Store>(&mut self, store: &mut S, key: &[u8], value: &[u8]) -> Result<(), DbError>
         ensures number { self.new.number ≡ self.old.number }
         ensures named { self.new.building.name ≡ table_name self.new.number }
@@ -110,8 +110,8 @@ impl<K: KeyOrder> NewTable<K> {
         Ok(())
     }
 
-    /// Whether the table ends before an entry of this user key: its data blocks have so many bytes, and its last entry is
-    /// of another user key.
+    /// Returns whether the table ends before an entry of this user key: its data blocks have so
+    /// many bytes, and its last entry is of another user key.
     pub fn ends_before(&self, user: &[u8], file_bytes: u64) -> bool
         ensures { MatchBool result ((file_bytes ≤ data_size self.now.building)
             × ((key : Key) → IsKey self.now.largest key → key.user ≢ user.now))
@@ -129,7 +129,7 @@ impl<K: KeyOrder> NewTable<K> {
         true
     }
 
-    /// Ends the table, and has the device keep it. `None` where it has no entry.
+    /// Ends the table, and syncs it. `None`: it has no entry.
     pub fn close<S: Store>(self, alloc: Global, store: &mut S) -> Result<Option<TableFile>, DbError>
         ensures writes { Writes (S.facts store.old) (S.facts store.new) (table_name self.number) }
         ensures closed { IfOk result (λ closed. (pairs : List Pair) → IsTrue (S.facts store.new).faithful
@@ -162,7 +162,7 @@ impl<K: KeyOrder> NewTable<K> {
     }
 }
 
-// Ends the table of this number, has the device keep it, and says how many bytes its file has.
+// Ends the table of this number, syncs it, and says how many bytes its file has.
 fn finish_file<K: KeyOrder, S: Store>(
     alloc: Global,
     store: &mut S,

@@ -32,12 +32,14 @@ abbrev pub IsOwn : CountError → Type 0
 IsOwn Foreign = ⊥
 IsOwn _ = Unit {0}
 
--- What is in doubt now was so before, or it is this one name: it is counted, or it isn't, once the database is open again.
+-- What is in doubt now was so before, or it is this one name: it is counted, or it isn't, once the
+-- database is open again.
 abbrev pub MayCount : List ℕ → List (List ℕ) → Machine → Machine → Type 0
 MayCount name names old new = (new.in_doubt ≡ old.in_doubt)
     ⊎ MatchOption new.in_doubt ⊥ (λ operations. IsTally (names ++ name ∷ []) (after_batch (current new) operations))
 
--- Where these names were counted, this one is too, and so often; or the count is refused, and they are counted as before.
+-- Where these names were counted, this one is too, and so often; or the count is refused, and they
+-- are counted as before.
 abbrev pub Increments : List ℕ → Machine → Result ℕ CountError → Machine → Type 0
 Increments name old (Ok count) new = (names : List (List ℕ)) → IsTally names (current old) →
     IsTally (names ++ name ∷ []) (current new) × (count ≡ tally (names ++ name ∷ []) name)

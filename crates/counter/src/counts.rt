@@ -16,7 +16,7 @@ use std::alloc::Global;
 use store::Store;
 use thiserror::Error;
 
-/// Why a name wasn't counted.
+/// Tells why a name wasn't counted.
 #[derive(Debug, Drop, Error)]
 pub enum CountError {
     #[error("the database refused: {0}")]
@@ -27,7 +27,7 @@ pub enum CountError {
     Foreign,
 }
 
-/// How often a name was counted that has this value.
+/// Returns how often a name was counted that has this value.
 pub fn count_in(value: &Option<Bytes>) -> Option<u64>
     ensures range { IfSome result (λ count. count < 2 ^ 64) }
     ensures is { (count : ℕ) → count < 2 ^ 64 → value.now ≡ shown count → result ≡ Some count }
@@ -62,7 +62,7 @@ fn batch_of(alloc: Global, name: &[u8], count: u64) -> Result<Batch, DbError>
     Ok(batch)
 }
 
-/// Counts a name once more, and answers how often it was counted now. It is on the device then.
+/// Counts a name once more, and returns how often it was counted now. The count is durable then.
 pub fn increment<S: Store, K: KeyOrder>(
     alloc: Global,
     db: &mut Db<S, K>,
@@ -88,8 +88,8 @@ pub fn increment<S: Store, K: KeyOrder>(
     }
 }
 
-/// Counts each of these names, in their order, until one is refused; and answers how many were counted, and why it ended. Exactly
-/// these were: each that was accepted is there, and no other.
+/// Counts each of these names, in their order, until one fails. Returns how many were counted, and
+/// why it ended. Exactly these are counted, and no other.
 pub fn count_each<S: Store, K: KeyOrder>(
     alloc: Global,
     db: &mut Db<S, K>,

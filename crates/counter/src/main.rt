@@ -1,5 +1,6 @@
-//! An application over a database, and its own promise, proved: it counts the words that it is given, and prints how often each was
-//! counted so far. The counts that the database has are those of the words that were accepted, and of no others (`counts::count_each`).
+//! An application over a database, and its own promise, proved. It counts the words that it is
+//! given, and prints how often each was counted so far. The database has the counts of the words
+//! that were counted without an error, and of no others (`counts::count_each`).
 #![tactic(auto)]
 
 mod counts;

@@ -23,7 +23,8 @@ from_cases : (k n : ℕ) → n ≤ k → (k ≡ n) ⊎ (suc n ≤ k)
 from_cases k n h = elim (cases_lt n k) [ inl l ↦ inr (omega (arith, l)) | inr le ↦ inl (omega (arith, h, le)) ]
 
 module _ (cmp : Cmp) (total : IsTotalOrder cmp) (exact : IsAntisymmetric cmp) (entries : List InternalEntry) (rises : Rises cmp entries) (sequence : ℕ) (test : List ℕ → Bool) where
-  -- what stands from the candidate's index on decides, where all in front of it have lower user keys
+  -- what stands from the candidate's index on decides, where all in front of it have lower user
+  -- keys
   found_back : {C S : Type 0} (lists : C → S → Listed → Type 0) (cursor : C) (source : S) (n : ℕ) (key value : List ℕ) (h : IsCandidate cmp entries sequence test n key value)
       → ((k : ℕ) (entry : InternalEntry) → k < n → slice_get entries k ≡ Some entry → cmp entry.key.user h.entry.key.user ≡ Less)
       → lists cursor source (listed entries (index_before n)) → FoundBack cmp lists cursor source entries sequence test key value

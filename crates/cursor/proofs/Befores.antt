@@ -1,4 +1,5 @@
--- Entries in their order: by their user keys, and those of one user key by their sequence numbers, the newest first.
+-- Entries in their order: by their user keys, and those of one user key by their sequence numbers,
+-- the newest first.
 use Rattle.std.proofs.Common.{◌≡◌, ◌⊎◌, ◌<◌, ◌≤◌, ℕ, zero, suc, true, false, List, [], ◌∷◌, Some, refl, sym, ap, ◌∙◌, subst, arith, inl, inr}
 use Rattle.std.specs.List.{slice_get}
 use Rattle.std.specs.FinMap.{IsAntisymmetric}

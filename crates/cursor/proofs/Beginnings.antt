@@ -119,7 +119,8 @@ module _ (cmp : Cmp) (total : IsTotalOrder cmp) (exact : IsAntisymmetric cmp) wh
     pub past_back : (user : List ℕ) (n : ℕ) → FromOn entries n (λ (entry : InternalEntry). is_less (cmp entry.key.user user) ≡ false) → HasPassedNone entries sequence (λ (u : List ℕ). is_less (cmp u user)) n
     past_back user n h k other le e v t = true_not_false (is_less (cmp other.key.user user)) t (h k other le e)
 
-    -- an entry stands between those of lower user keys and the others, but for newer ones of its own
+    -- an entry stands between those of lower user keys and the others, but for newer ones of its
+    -- own
     pub at_entry : (n : ℕ) (x : InternalEntry) → slice_get entries n ≡ Some x → StandsBetween cmp entries n x.key.user
     at_entry n x at = record {
       front = λ k entry less e. later_no_lower cmp total exact entry.key x.key (rises_get cmp entries k n entry x rises less e at);

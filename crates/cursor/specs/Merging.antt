@@ -12,8 +12,8 @@ use Rattle.cursor.specs.Places.{Cmp, Listed, Rises, is_below, within, index_befo
 
 -- ---- the union
 
--- The union of these lists, sorted: it rises, and has the entries of the lists and no others; no two lists share an
--- internal key.
+-- The union of these lists, sorted: it rises, and has the entries of the lists and no others; no
+-- two lists share an internal key.
 pub record IsUnion (cmp : Cmp) (lists : List (List InternalEntry)) (union : List InternalEntry) : Type 0 where
   pub rises : Rises cmp union
   pub each_rises : (i : ℕ) (list : List InternalEntry) → slice_get lists i ≡ Some list → Rises cmp list
@@ -46,7 +46,8 @@ pub record Each {C : Type 0} (children : List (Child C)) (lists : List (List Int
   pub same_length : length children ≡ length lists
   pub each : (i : ℕ) (child : Child C) (list : List InternalEntry) → slice_get children i ≡ Some child → slice_get lists i ≡ Some list → is i child list
 
--- The children stand beside the key, all but the one that is left out; a target is the key, where one is astray.
+-- The children stand beside the key, all but the one that is left out; a target is the key, where
+-- one is astray.
 abbrev pub AreBeside : {C S : Type 0} → Cmp → (C → S → Listed → Type 0) → List (Child C) → Option ℕ → S → Key → List (List InternalEntry) → Type 0
 AreBeside cmp lists children left_out source key all =
     Each children all (λ i child list. (Some i ≡ left_out → ⊥) → IsBeside cmp lists source key list child.cursor child.side)

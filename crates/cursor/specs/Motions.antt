@@ -127,7 +127,8 @@ side_beside None end = side.Astray
 side_beside (Some best) Least = side.Ahead
 side_beside (Some best) Greatest = side.Behind
 
--- The children stand where their best entry is the union's entry at this place: at an end of what passes some test.
+-- The children stand where their best entry is the union's entry at this place: at an end of what
+-- passes some test.
 pub record Arrives {C S : Type 0} (cmp : Cmp) (lists : C → S → Listed → Type 0) (end : End) (children : List (Child C)) (source : S) (union : List InternalEntry) (place : Option ℕ) : Type 0 where
   pub all : List (List InternalEntry)
   pub test : InternalEntry → Bool
@@ -136,7 +137,8 @@ pub record Arrives {C S : Type 0} (cmp : Cmp) (lists : C → S → Listed → Ty
   pub stand : StandAt lists children source all (end_place end test)
   pub place_is : place ≡ end_place end test union
 
--- What a move of all children of a merge leads to: they arrive, or it is refused, and the merge stands as it stood.
+-- What a move of all children of a merge leads to: they arrive, or it is refused, and the merge
+-- stands as it stood.
 abbrev pub Leads : {C S T : Type 0} → Cmp → (C → S → Listed → Type 0) → End → List (Child C) → Option ℕ → List ℕ → S → Listed → Option ℕ → Result T DbError → Type 0
 Leads cmp lists end children current target source at place (Ok done) = Arrives cmp lists end children source at.entries place
 Leads cmp lists end children current target source at place (Err error) = IsMerge cmp lists children current target source at

@@ -1,4 +1,5 @@
--- Looking for the next visible entry, either way (LevelDB's db/db_iter.cc, FindNextUserEntry and FindPrevUserEntry).
+-- Looking for the next visible entry, either way (LevelDB's db/db_iter.cc, FindNextUserEntry and
+-- FindPrevUserEntry).
 use Rattle.std.specs.Prelude.{◌≡◌, ◌⊎◌, ◌<◌, ◌≤◌, ℕ, Bool, true, false, IsTrue, List, Option, None, Some, slice_get}
 use Rattle.std.specs.declared.cmp.Ordering.TheVariants.{Less}
 use Rattle.coding.specs.declared.error.DbError.{DbError}
@@ -38,8 +39,9 @@ pub record StandsBetween (cmp : Cmp) (entries : List InternalEntry) (index : ℕ
 
 -- ---- forth
 
--- A search for the first visible entry whose user key fails the test has come to this index: it has passed none, and
--- from here on it hides the entries of the hidden user key, where it hides one, and of no other does it know any.
+-- A search for the first visible entry whose user key fails the test has come to this index: it has
+-- passed none, and from here on it hides the entries of the hidden user key, where it hides one,
+-- and of no other does it know any.
 pub record SearchesOn (cmp : Cmp) (entries : List InternalEntry) (sequence : ℕ) (test : List ℕ → Bool) (index : ℕ) (hides : Bool) (hidden : List ℕ) : Type 0 where
   pub lower : PassesLower cmp test
   pub passed : InFront entries index (λ entry. IsVisible entries sequence entry → test entry.key.user ≡ true)
@@ -98,8 +100,9 @@ RefusesKey error bytes = ⊥
 
 -- ---- back
 
--- A candidate of a search back from this index, for the last visible entry whose user key passes the test: of the entries
--- from the index on the newest of its user key, which is the lowest there, and a put.
+-- A candidate of a search back from this index, for the last visible entry whose user key passes
+-- the test: of the entries from the index on the newest of its user key, which is the lowest there,
+-- and a put.
 pub record IsCandidate (cmp : Cmp) (entries : List InternalEntry) (sequence : ℕ) (test : List ℕ → Bool) (index : ℕ) (key value : List ℕ) : Type 0 where
   pub place : ℕ
   pub entry : InternalEntry
@@ -142,7 +145,8 @@ abbrev pub below_bound : Cmp → Option (List ℕ) → List ℕ → Bool
 below_bound cmp None user = true
 below_bound cmp (Some bound) user = is_less (cmp user bound)
 
--- What a search back does at one entry: it ends, it has a new candidate, it has none any more, or it passes on.
+-- What a search back does at one entry: it ends, it has a new candidate, it has none any more, or
+-- it passes on.
 pub record Ends (key : Key) (has : Bool) (found value : List ℕ) (has_now : Bool) (found_now value_now : List ℕ) : Type 0 where
   pub has_is : has ≡ true
   pub other : key.user ≡ found → ⊥

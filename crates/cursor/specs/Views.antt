@@ -1,4 +1,5 @@
--- The pairs that are visible at a sequence (LevelDB's doc/index.md, "Snapshots"), as a sorted list.
+-- The pairs that are visible at a sequence number (LevelDB's doc/index.md, "Snapshots"), as a
+-- sorted list.
 use Rattle.std.specs.Prelude.{◌≡◌, ◌⊎◌, ◌≤◌, ℕ, zero, suc, Bool, List, [], ◌∷◌, Option, length, option_and_then, if◌then◌else◌}
 use Rattle.std.specs.List.{AllByRecursion}
 use Rattle.std.specs.declared.cmp.Ordering.TheVariants.{Less}
@@ -7,7 +8,7 @@ use Rattle.ikey.specs.Entries.{InternalEntry, Pair}
 use Rattle.ikey.specs.Views.{Among}
 use Rattle.cursor.specs.Places.{Cmp, is_less, within, index_before, index_behind}
 
--- Of the entries of its user key up to the sequence the entry is the newest.
+-- Of the entries of its user key up to the sequence number the entry is the newest.
 pub record IsNewest (entries : List InternalEntry) (sequence : ℕ) (entry : InternalEntry) : Type 0 where
   pub member : Among entries entry
   pub seen : entry.key.sequence ≤ sequence
@@ -30,7 +31,8 @@ abbrev pub KeysRise : Cmp → List Pair → Type 0
 KeysRise cmp [] = Unit {0}
 KeysRise cmp (pair ∷ pairs) = AllByRecursion (λ (later : Pair). cmp pair.key later.key ≡ Less) pairs × KeysRise cmp pairs
 
--- The view of the entries at a sequence, as a list: its keys rise, and its pairs are those of the visible entries and no others.
+-- The view of the entries at a sequence number, as a list: its keys rise, and its pairs are those
+-- of the visible entries and no others.
 pub record IsViewList (cmp : Cmp) (entries : List InternalEntry) (sequence : ℕ) (pairs : List Pair) : Type 0 where
   pub rises : KeysRise cmp pairs
   pub found : (pair : Pair) → HasPair pairs pair → (entry : InternalEntry) × IsVisible entries sequence entry × (pair ≡ shown entry)

@@ -1,5 +1,6 @@
-//! Cursors: a sorted list of entries and a place in it (LevelDB's include/leveldb/iterator.h), over lists in memory,
-//! several of them merged, and the pairs that are visible at a sequence.
+//! Cursors: a sorted list of entries and a place in it (LevelDB's include/leveldb/iterator.h). They
+//! go over lists in memory, over several cursors merged, and over the pairs that are visible at a
+//! sequence number.
 #![tactic(auto)]
 
 mod child;

@@ -21,17 +21,16 @@ use ikey::KeyOrder;
 use std::alloc::{AllocError, Global};
 use std::marker::PhantomData;
 
-/// Cursors that are merged into one: their lists' union, in order, where no two share an internal key. It looks at each
-/// child for the next entry, which serves the few that a database has.
-///
-/// Each child knows on which side of the merge's entry it stands, so that a turn moves it by one step, and looks for no
-/// key.
+/// Merges cursors into one: their lists' union, in order, if no two share an internal key. For the
+/// next entry it compares all children, which serves the few that a database has. Each child knows
+/// on which side of the merge's entry it stands, so that a turn moves it by one step, and looks for
+/// no key.
 #[derive(Drop)]
 pub struct Merge<K: KeyOrder, C> {
     children: Vec<Child<C>>,
     // the index of the child that stands on the merge's entry, if the merge stands on one
     current: Option<usize>,
-    // the key of that entry, where a child is astray
+    // the key of that entry, if a child is astray
     target: Vec<u8>,
     order: PhantomData<K>,
 }
@@ -40,7 +39,7 @@ impl<K: KeyOrder, C: Drop> Merge<K, C> {
     ghost use Rattle.std.specs.Prelude.{◌≡◌, None, map, IfOk};
     ghost use Rattle.std.specs.List.{AllByRecursion};
 
-    /// The union of these cursors. It stands nowhere.
+    /// Makes the union of these cursors. It stands nowhere.
     pub fn new(alloc: Global, cursors: Vec<C>) -> Result<Self, AllocError>
         ensures children { IfOk result (λ merge. map (λ child. child.cursor) merge.children.items ≡ cursors.items) }
         ensures nowhere { IfOk result (λ merge. merge.current ≡ None) }
@@ -62,7 +61,8 @@ impl<K: KeyOrder, C: Drop> Merge<K, C> {
     }
 }
 
-/// Law: where each cursor of a new merge stands nowhere in a list, the merge stands nowhere in the lists' union.
+/// Proves that if each cursor of a new merge stands nowhere in a list, the merge stands nowhere in
+/// the lists' union.
 pub fn merge_begins<K: KeyOrder, S, C: Cursor<K, S>>(merge: &Merge<K, C>, source: &S)
     requires nowhere { merge.now.current ≡ None }
     requires astray { AllByRecursion (λ child. child.side ≡ Side.Astray) merge.now.children.items }
@@ -219,7 +219,7 @@ fn jump<K: KeyOrder, S, C: Cursor<K, S>>(
     }
 }
 
-// The index of the child that stands on the merge's entry, where it does.
+// The index of the child that stands on the merge's entry, if it does.
 fn standing<K: KeyOrder, S, C: Cursor<K, S>>(merge: &Merge<K, C>) -> Option<usize>
     ensures { MatchOption result (child_stands C.stands merge.now.children.items merge.now.current ≡ false)
         (λ index. (merge.now.current ≡ Some index) × (child_stands C.stands merge.now.children.items (Some index) ≡ true)) }

@@ -1,4 +1,4 @@
-//! Looking for the next pair that is visible at a sequence, either way.
+//! Looking for the next pair that is visible at a sequence number, either way.
 
 ghost use Rattle.std.specs.Prelude.{◌≡◌, ◌<◌, ℕ, Bool, true, List, IsTrue, IfOk, IfErr, OnOk, MatchResult, MatchBool};
 ghost use Rattle.std.specs.Option.{option_copied};
@@ -19,7 +19,7 @@ use ikey::{InternalKey, KeyOrder, Kind, same_bytes, unpack};
 use std::alloc::{AllocError, Global};
 use std::cmp::Ordering;
 
-/// A user key, and a value.
+/// Holds a user key, and a value.
 #[derive(Drop)]
 pub struct Found {
     pub key: Vec<u8>,
@@ -27,7 +27,7 @@ pub struct Found {
 }
 
 impl Found {
-    /// Nothing yet.
+    /// Makes one that has found nothing yet.
     pub fn new(alloc: Global) -> Self {
         Found {
             key: Vec::new(alloc),
@@ -36,9 +36,10 @@ impl Found {
     }
 }
 
-/// Goes on from the cursor's entry to the first that is visible: the newest of its user key up to the sequence, and a
-/// put. With `hides`, the user key in the buffer is passed over. The buffer has the user key that was found. More entries
-/// than 2^64, which no store holds, are too much for memory.
+/// Goes on from the cursor's entry to the first that is visible: the newest of its user key up to
+/// the sequence number, and a put. With `hides`, the user key in the buffer is passed over. The
+/// buffer has the user key that was found. More entries than 2^64, which no store holds, are too
+/// much for memory.
 pub fn find_on<K: KeyOrder, S, C: Cursor<K, S>>(
     cursor: &mut C,
     alloc: Global,
@@ -70,7 +71,8 @@ pub fn find_on<K: KeyOrder, S, C: Cursor<K, S>>(
     Err(DbError::OutOfMemory)
 }
 
-// Whether the entry of this key is the one that is looked for. Where not, it may hide the older ones of its user key.
+// Whether the entry of this key is the one that is looked for. Where not, it may hide the older
+// ones of its user key.
 fn look_on(
     bytes: &[u8],
     sequence: u64,
@@ -107,8 +109,9 @@ fn is_hidden(hides: bool, hidden: &[u8], user: &[u8]) -> bool
     same_bytes(hidden, user)
 }
 
-/// Goes back from the cursor's entry to the newest entry up to the sequence of the greatest user key that has a put
-/// there, and further to the last entry of a lower user key. Entries whose user key isn't below the bound are passed over.
+/// Goes back from the cursor's entry to the newest entry, up to the sequence number, of the
+/// greatest user key that has a put there, and further to the last entry of a lower user key.
+/// Entries whose user key isn't below the bound are passed over.
 pub fn find_back<K: KeyOrder, S, C: Cursor<K, S>>(
     cursor: &mut C,
     alloc: Global,
@@ -146,8 +149,8 @@ pub fn find_back<K: KeyOrder, S, C: Cursor<K, S>>(
     Err(DbError::OutOfMemory)
 }
 
-// Whether the search ends at the entry of this key and value: in front of the user key that was found. Where not, it may be found itself, or
-// hide what was found.
+// Whether the search ends at the entry of this key and value: before the user key that was found.
+// If not, it may be found itself, or hide what was found.
 fn look_back<K: KeyOrder>(
     bytes: &[u8],
     value: &[u8],

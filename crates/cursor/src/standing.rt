@@ -1,4 +1,4 @@
-//! Where the cursor beneath a walk stands, and how it comes beside the walk's pair.
+//! Where the cursor beneath an iteration stands, and how it comes beside the iteration's pair.
 
 ghost use Rattle.std.specs.Prelude.{◌≡◌, ◌<◌, ◌^◌, ℕ, List, Option, Some, false, IsTrue, OnOk, slice_get};
 ghost use Rattle.std.specs.Option.{option_copied};
@@ -17,19 +17,19 @@ use coding::DbError;
 use ikey::{KeyOrder, seek_key};
 use std::alloc::Global;
 
-/// Where the cursor beneath stands, as seen from the pair that the walk stands on.
+/// Tells where the cursor beneath stands, as seen from the pair that the iteration stands on.
 #[derive(Clone, Copy, Debug, PartialEq, Eq)]
 pub enum Position {
     /// On the pair's entry.
     Here,
-    /// On the last entry of a lower user key, or nowhere where there is none. The value is kept.
+    /// On the last entry of a lower user key, or nowhere if there is none. The value is kept.
     Behind,
-    /// Anywhere: a move was refused.
+    /// Anywhere: a move failed.
     Astray,
 }
 
-/// Has the cursor stand behind all entries of lower user keys, and in front of those that are older than the pair's or of
-/// higher user keys: not on the pair's own, which needn't be looked at again.
+/// Moves the cursor after all entries of lower user keys, and before those that are older than the
+/// pair's or of higher user keys. It isn't on the pair's own entry, which needn't be read again.
 pub fn stand_ahead<K: KeyOrder, S, C: Cursor<K, S>>(
     cursor: &mut C,
     alloc: Global,
@@ -118,7 +118,7 @@ fn find_again<K: KeyOrder, S, C: Cursor<K, S>>(
     Ok(())
 }
 
-/// What a search back is bound by.
+/// Returns what a search back is bound by.
 pub fn bound_of(past: bool, key: &[u8]) -> Option<&[u8]>
     ensures { option_copied result ≡ bound_if past key.now }
 {

@@ -1,4 +1,4 @@
-//! Steps over a place in a list: the entries in front of it pass a test, and those behind it don't.
+//! Steps over a place in a list: the entries before it pass a test, and those after it don't.
 
 ghost use Rattle.std.specs.Prelude.{List, Bool, ℕ, suc, Some, OnOk, IsTrue};
 ghost use Rattle.cursor.specs.Places.{within};
@@ -14,7 +14,7 @@ use coding::DbError;
 use ikey::KeyOrder;
 use std::alloc::Global;
 
-/// From the last entry in front of a place to the first that isn't.
+/// Steps from the last entry before a place to the first that isn't before it.
 pub fn step_ahead<K: KeyOrder, S, C: Cursor<K, S>>(
     cursor: &mut C,
     alloc: Global,
@@ -33,7 +33,7 @@ pub fn step_ahead<K: KeyOrder, S, C: Cursor<K, S>>(
     cursor.first(alloc, source)
 }
 
-/// From an entry to the one behind it.
+/// Steps from an entry to the next one.
 pub fn step_off<K: KeyOrder, S, C: Cursor<K, S>>(
     cursor: &mut C,
     alloc: Global,
@@ -53,7 +53,7 @@ pub fn step_off<K: KeyOrder, S, C: Cursor<K, S>>(
     cursor.next(alloc, source)
 }
 
-/// From the first entry that isn't in front of a place to the last that is.
+/// Steps from the first entry that isn't before a place to the last that is.
 pub fn step_behind<K: KeyOrder, S, C: Cursor<K, S>>(
     cursor: &mut C,
     alloc: Global,

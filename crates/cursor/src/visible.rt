@@ -1,4 +1,4 @@
-//! The pairs that are visible at a sequence (LevelDB's db/db_iter.cc).
+//! The pairs that are visible at a sequence number (LevelDB's db/db_iter.cc).
 
 ghost use Rattle.std.specs.Prelude.{◌<◌, ◌^◌};
 
@@ -12,9 +12,9 @@ use std::alloc::{AllocError, Global};
 use std::marker::PhantomData;
 use std::mem;
 
-/// A walk over the live pairs at a sequence: of each user key the newest entry up to it, where that is a put. The cursor
-/// beneath lists all entries. An `Err` leaves the place and the key; the value can be asked for again once a move has
-/// succeeded.
+/// Holds an iteration over the pairs that are visible at a sequence number: of each user key the
+/// newest entry up to it, if that is a put. The cursor beneath lists all entries. An `Err` leaves
+/// the place and the key; the value can be asked for again once a move has succeeded.
 #[derive(Drop)]
 pub struct Visible<K: KeyOrder, C> {
     cursor: C,
@@ -22,7 +22,7 @@ pub struct Visible<K: KeyOrder, C> {
     ghost fits: { sequence < 2 ^ 56 },
     stands: bool,
     position: Position,
-    // the pair that the walk stands on; its value only where the cursor is behind
+    // the pair that the iteration stands on; its value only at `Position::Behind`
     here: Found,
     // what a move looks for, until it has succeeded
     spare: Found,
@@ -43,7 +43,8 @@ impl<K: KeyOrder, C> Visible<K, C> {
     ghost use Rattle.cursor.specs.Standing.{bound_if};
     ghost use Rattle.cursor.specs.Walks.{IsWalk, IsPlacedWalk, HasStayed, key_before, value_at_hand, walk_after, walked};
 
-    /// A walk over what is visible at the sequence, below `SEQUENCE_END`. It stands nowhere, and takes no memory.
+    /// Makes an iteration over what is visible at the sequence number, below `SEQUENCE_END`. It
+    /// stands nowhere, and takes no memory.
     pub fn new(alloc: Global, cursor: C, sequence: u64) -> Self
         requires { sequence < 2 ^ 56 }
         ensures cursor { result.cursor ≡ cursor }
@@ -61,7 +62,8 @@ impl<K: KeyOrder, C> Visible<K, C> {
         }
     }
 
-    /// Law: where the cursor beneath stands anywhere in a list, a new walk stands nowhere in the list of what is visible there.
+    /// Proves that if the cursor beneath stands anywhere in a list, a new iteration stands nowhere
+    /// in the list of what is visible there.
     pub fn begins<S>(&self, source: &S)
     where
         C: Cursor<K, S>,
@@ -74,7 +76,7 @@ impl<K: KeyOrder, C> Visible<K, C> {
         let _ = source;
     }
 
-    /// Stands on the pair of the least user key, or nowhere where there is none.
+    /// Moves to the pair of the least user key, or nowhere if there is none.
     pub fn first<S>(&mut self, alloc: Global, source: &mut S) -> Result<(), DbError>
     where
         C: Cursor<K, S>,
@@ -96,7 +98,7 @@ impl<K: KeyOrder, C> Visible<K, C> {
         Ok(())
     }
 
-    /// Stands on the pair of the greatest user key, or nowhere where there is none.
+    /// Moves to the pair of the greatest user key, or nowhere if there is none.
     pub fn last<S>(&mut self, alloc: Global, source: &mut S) -> Result<(), DbError>
     where
         C: Cursor<K, S>,
@@ -118,7 +120,8 @@ impl<K: KeyOrder, C> Visible<K, C> {
         Ok(())
     }
 
-    /// Stands on the pair of the first user key that isn't below the target, or nowhere where there is none.
+    /// Moves to the pair of the first user key that isn't below the target, or nowhere if there is
+    /// none.
     pub fn seek<S>(&mut self, alloc: Global, source: &mut S, target: &[u8]) -> Result<(), DbError>
     where
         C: Cursor<K, S>,
@@ -141,7 +144,7 @@ impl<K: KeyOrder, C> Visible<K, C> {
         Ok(())
     }
 
-    /// Stands on the pair behind, or nowhere where there is none.
+    /// Moves to the next pair, or nowhere if there is none.
     pub fn next<S>(&mut self, alloc: Global, source: &mut S) -> Result<(), DbError>
     where
         C: Cursor<K, S>,
@@ -172,7 +175,7 @@ impl<K: KeyOrder, C> Visible<K, C> {
         Ok(())
     }
 
-    /// Stands on the pair in front, or nowhere where there is none.
+    /// Moves to the previous pair, or nowhere if there is none.
     pub fn prev<S>(&mut self, alloc: Global, source: &mut S) -> Result<(), DbError>
     where
         C: Cursor<K, S>,
@@ -203,8 +206,9 @@ impl<K: KeyOrder, C> Visible<K, C> {
         Ok(())
     }
 
-    /// Takes back the last move, where it succeeded: the walk stands again on the pair on which it stood before, or
-    /// nowhere, where it stood on none. It takes no memory; the value can be asked for again after the next move.
+    /// Takes back the last move, if it succeeded: the iteration stands again where it stood before,
+    /// on a pair or nowhere. It takes no memory. The value can be asked for again after the next
+    /// move.
     pub fn take_back(&mut self, stood: bool)
         ensures cursor { self.new.cursor ≡ self.old.cursor }
         ensures sequence { self.new.sequence ≡ self.old.sequence }
@@ -219,21 +223,21 @@ impl<K: KeyOrder, C> Visible<K, C> {
         self.position = Position::Astray;
     }
 
-    /// Whether the walk stands on a pair.
+    /// Returns whether the iteration stands on a pair.
     pub fn stands(&self) -> bool
         ensures { result ≡ self.now.stands }
     {
         self.stands
     }
 
-    /// The user key of that pair.
+    /// Returns the user key of that pair.
     pub fn key(&self) -> &[u8]
         ensures { result.now ≡ self.now.here.key.items }
     {
         self.here.key.as_slice()
     }
 
-    /// The value of that pair, after a move that succeeded.
+    /// Returns the value of that pair, after a move that succeeded.
     pub fn value<'a, S>(&'a self, source: &'a S) -> &'a [u8]
     where
         C: Cursor<K, S>,
@@ -249,7 +253,8 @@ impl<K: KeyOrder, C> Visible<K, C> {
         }
     }
 
-    // Finds the first pair from the cursor's entry on, past the user key at hand where the walk stands on one.
+    // Finds the first pair from the cursor's entry on, past the user key at hand if the iteration
+    // stands on one.
     fn go_on<S>(&mut self, alloc: Global, source: &mut S, past: bool) -> Result<(), DbError>
     where
         C: Cursor<K, S>,
@@ -287,7 +292,8 @@ impl<K: KeyOrder, C> Visible<K, C> {
         Ok(())
     }
 
-    // Finds the last pair up to the cursor's entry, in front of the user key at hand where the walk stands on one.
+    // Finds the last pair up to the cursor's entry, before the user key at hand if the iteration
+    // stands on one.
     fn go_back<S>(&mut self, alloc: Global, source: &mut S, past: bool) -> Result<(), DbError>
     where
         C: Cursor<K, S>,

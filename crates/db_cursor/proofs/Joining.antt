@@ -84,7 +84,7 @@ module _ (cmp : Cmp) (lists : List (List InternalEntry)) (union : List InternalE
       let at = is.found entry.0 entry.1 in
       subst (Among (joined (all_entries lists))) (sym entry.2) (among_joined lists at.0 at.1 (entry_of entry.0) at.2 (among_entries at.1 entry.0 at.3))
 
--- ---- what is seen of a memory table
+-- ---- what is seen of a memtable
 
 value_again : (value : Option (List ℕ)) → value_of (kind_of value) (value_kept value) ≡ value
 value_again None = refl
@@ -143,7 +143,7 @@ seen_has cmp inserts sequence e le m =
 
 -- ---- views
 
--- the same entries up to a sequence have the same view there
+-- the same entries up to a sequence number have the same view there
 pub view_up_to : (xs ys : List Entry) (sequence : ℕ) (view : Contents) → ((e : Entry) → e.sequence ≤ sequence → Among xs e → Among ys e) → ((e : Entry) → e.sequence ≤ sequence → Among ys e → Among xs e)
     → IsView xs sequence view → IsView ys sequence view
 view_up_to xs ys sequence view there back h = record {

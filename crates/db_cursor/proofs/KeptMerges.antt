@@ -19,13 +19,13 @@ use Rattle.db_cursor.proofs.ReadTables.{source_stays}
 use Rattle.db_cursor.proofs.Sights.{merged_as}
 use Rattle.table_access.specs.Tables.{Seen}
 
--- ---- what a move leaves of what is read of the memory tables
+-- ---- what a move leaves of what is read of the memtables
 
 abbrev pub KeepsChildren : {K : Type 0} {g : _} {S : Type 0} → Cmp → (S → Whole) → List (Child (SourceCursor K g)) → S → S → Type 0
 KeepsChildren {K} {g} cmp whole_of children s t = KeepsAll (λ (cursor : SourceCursor K g) s t. KeepsSource cmp cursor (whole_of s) (whole_of t)) children s t
 
 module _ {K : Type 0} {g : _} {S : Type 0} (cmp : Cmp) (whole_of : S → Whole) (with : S → Memories → S) (with_is : (s : S) (w : Memories) → whole_of (with s w) ≡ record { seen = (whole_of s).seen; memory = w }) where
-  -- where each source is read as before, two that differ in their memory tables are
+  -- where each source is read as before, two that differ in their memtables are
   pub memory_as : (before : S) (old new : List (Child (SourceCursor K g))) (m n : Memories) → ((s t : S) → KeepsChildren cmp whole_of old s t → KeepsChildren cmp whole_of new s t)
       → KeepsAll (KeepsSource cmp) old (record { seen = (whole_of before).seen; memory = m }) (record { seen = (whole_of before).seen; memory = n })
       → KeepsAll (KeepsSource cmp) new (record { seen = (whole_of before).seen; memory = m }) (record { seen = (whole_of before).seen; memory = n })

@@ -1,4 +1,4 @@
--- A new scan over a memory table and the tables of a version.
+-- A new scan over a memtable and the tables of a version.
 use Rattle.std.proofs.Common.{◌≡◌, ◌-◌, ◌++◌, ◌≤◌, ℕ, zero, suc, false, Option, Some, None, is_some, List, [], ◌∷◌, drop, length, map, take, refl, sym, ap, ◌∙◌, subst, inl, inr, arith}
 use Rattle.std.specs.Cmp.{IsTotalOrder}
 use Rattle.std.specs.Prelude.{Contains, slice_get}
@@ -140,7 +140,8 @@ cursors_of {C} children = map (λ (child : Child C). child.cursor) children
 pub cursor_at : {C : Type 0} (children : List (Child C)) (i : ℕ) (child : Child C) → slice_get children i ≡ Some child → slice_get (cursors_of children) i ≡ Some child.cursor
 cursor_at {C} children i child is = slice_get-map (λ (c : Child C). c.cursor) children i ∙ ap (option_map (λ (c : Child C). c.cursor)) is
 
--- a new cursor over a memory table that is read and no entries above the sequence, or over these tables
+-- a new cursor over a memtable that is read and no entries above the sequence number, or over these
+-- tables
 abbrev pub IsNew : {K : Type 0} {g : _} → (ℕ → Type 0) → ℕ → List PlacedTable → SourceCursor K g → Type 0
 IsNew reads sequence tables (Memory cursor) = reads cursor.generation × (cursor.place.sequence ≤ sequence)
 IsNew reads sequence tables (Row cursor) = (cursor.here ≡ None) × (cursor.version.value.tables ≡ tables)
@@ -251,7 +252,7 @@ module _ {K : Type 0} {g : _} (generation : ℕ) (sealed : Option ℕ) (sequence
 
 -- ---- what they list
 
--- what is listed of the memory tables
+-- what is listed of the memtables
 abbrev pub seen_current : Cmp → Memories → ℕ → List InternalEntry
 seen_current cmp memory sequence = seen_entries cmp memory.current.inserts sequence
 
@@ -307,7 +308,8 @@ module _ {K : Type 0} {g : _} (order : Order) (whole : Whole) (tables : List Pla
       let others = rows_listed ranges cursors rest rows.1 in
       (here.0 ∷ others.0, (λ i. here.1 i ∷ others.1 i), (here.2, others.2))
 
-  -- The lists of all rows: their entries together are those of the places where the version is searched, in this turn, and each is sorted.
+  -- The lists of all rows: their entries together are those of the places where the version is
+  -- searched, in this turn, and each is sorted.
   abbrev pub Rows : List (SourceCursor K g) → Type 0
   Rows cursors = (lists : List (List InternalEntry)) × AllTwo Lists cursors lists × (joined (all_entries lists) ≡ joined (table_sources contents)) × AreSearched (all_entries lists) × AllByRecursion (AreSorted order) (all_entries lists)
 
@@ -362,7 +364,7 @@ module _ {K : Type 0} {g : _} (order : Order) (whole : Whole) (tables : List Pla
           ),
         )
 
-    -- the memory tables' entries in front of those of the tables
+    -- the memtables' entries in front of those of the tables
     pub all_listed : (cursors : List (SourceCursor K g)) → map spot_of cursors ≡ memory_spots sequence whole.memory.generation whole.memory.sealed ++ spots_of tables (all_ranges tables) → Listing whole.memory.sealed cursors
     all_listed cursors e = listed_with whole.memory.sealed cursors refl e
 

@@ -1,4 +1,5 @@
--- That no two entries of sources that are searched one after the other share a key and a sequence.
+-- That no two entries of sources that are searched one after the other share a key and a sequence
+-- number.
 use Rattle.std.proofs.Common.{◌≡◌, ◌∙◌, List, [], ◌∷◌, ap, arith, inl, inr, refl, sym}
 use Rattle.std.specs.Cmp.{IsTotalOrder}
 use Rattle.std.specs.List.{AllByRecursion}

@@ -1,4 +1,4 @@
--- Which memory tables and which tables a scan reads.
+-- Which memtables and which tables a scan reads.
 use Rattle.std.proofs.Common.{◌≡◌, ◌<◌, ℕ, Bool, true, false, cond, List, [], Option, Some, None, inl, inr, refl, sym, ap, ◌∙◌, subst, arith}
 use Rattle.std.specs.Prelude.{IsSome, IfSome, nat_eq}
 use Rattle.std.specs.Option.{option_map, option_and_then}
@@ -58,7 +58,7 @@ row_kept cmp numbers old new row over k = record {
   here = open_kept cmp numbers old new row.here (λ number is. over number (inr is)) k;
 }
 
--- and any cursor does, where it reads what it read of the memory tables
+-- and any cursor does, where it reads what it read of the memtables
 pub source_stays : {K : Type 0} {g : _} (cmp : Cmp) (numbers : ℕ → Type 0) (cursor : SourceCursor K g) (seen : Seen) (old new : Whole) → ((number : ℕ) → GoesOver cursor number → numbers number) → KeepsFiles cmp numbers old.seen new.seen
     → KeepsSource cmp cursor (record { seen = seen; memory = old.memory }) (record { seen = seen; memory = new.memory }) → KeepsSource cmp cursor old new
 source_stays cmp numbers (Memory cursor) seen old new over k m = m

@@ -182,7 +182,8 @@ few_newest contents = let few = level_fits 0 (placed_of contents) in let long = 
 abbrev pub all_ranges : List PlacedTable → List (ℕ × ℕ)
 all_ranges tables = newest_ranges (length (tables_at 0 tables)) ++ deeper_ranges tables 6
 
--- spots that are added one after another: some, those of the newest tables, and those of the deeper levels
+-- spots that are added one after another: some, those of the newest tables, and those of the deeper
+-- levels
 pub spots_together : (tables : List PlacedTable) (front begun added all : List Spot) → begun ≡ front → added ≡ begun ++ spots_of tables (newest_ranges (length (tables_at 0 tables)))
     → all ≡ added ++ spots_of tables (deeper_ranges tables 6) → all ≡ front ++ spots_of tables (all_ranges tables)
 spots_together tables front begun added all first second third =

@@ -25,7 +25,7 @@ module _ {K : Type 0} {g : Ghosts K} {S T : Type 0} (cmp : Cmp) (seen_of : T →
   StaysSource old new before after = Stays (λ source. (whole_of seen_of tables_of memory_of source).seen.facts) (λ cursor s t. KeepsSource cmp cursor (whole_of seen_of tables_of memory_of s) (whole_of seen_of tables_of memory_of t)) (λ cursor source. LimitedSource cmp cursor (whole_of seen_of tables_of memory_of source)) (λ cursor source cut. TornSource cmp cursor (whole_of seen_of tables_of memory_of source) cut)
       (λ numbers s t. LeavesSource cmp numbers (whole_of seen_of tables_of memory_of s) (whole_of seen_of tables_of memory_of t)) (λ cursor number. GoesOver cursor number) old new before after
 
-  -- a move over a memory table
+  -- a move over a memtable
   pub stays_memory : (old new : MemoriesPlace) (before after : S) → seen_of (tables_of after) ≡ seen_of (tables_of before)
       → Stays (λ memories. memory_facts) (λ cursor s t. KeepsMemories cmp cursor s t) (λ cursor memories. ⊥) (λ cursor memories cut. ⊥) (λ numbers s t. LeavesMemories s t) (λ cursor number. ⊥) old new (memory_of before) (memory_of after) → StaysSource (Memory old) (Memory new) before after
   stays_memory old new before after is h =

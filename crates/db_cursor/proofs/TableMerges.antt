@@ -34,7 +34,7 @@ use Rattle.table_access.specs.Possible.{MayBeTable}
 use Rattle.table_access.proofs.Wholes.{may_be}
 use Rattle.versions.specs.Levels.{AreInOrder}
 
--- a new cursor over tables reads no memory table
+-- a new cursor over tables reads no memtable
 no_memory : {K : Type 0} {g : Ghosts K} (order : Order) (tables : List PlacedTable) (cursor : SourceCursor K g) (old new : Whole) → IsNew (λ generation. ⊥) 0 tables cursor → old.seen ≡ new.seen → KeepsSource order.cmp cursor old new
 no_memory order tables (Memory cursor) old new h same = absurd h.0
 no_memory order tables (Row cursor) old new h same = subst (λ seen. KeepsSource order.cmp (Row cursor) old (record new { seen = seen })) same (row_still order.cmp (rows_tables cursor) cursor.here old.seen)

@@ -1,4 +1,5 @@
--- What a compaction reads: the tables of a version, and no memory table (LevelDB's db/version_set.cc, VersionSet::MakeInputIterator).
+-- What a compaction reads: the tables of a version, and no memtable (LevelDB's
+-- db/version_set.cc, VersionSet::MakeInputIterator).
 use Rattle.cursor.specs.declared.merge.Merge.{Merge}
 use Rattle.cursor.specs.Cuts.{Cut}
 use Rattle.cursor.specs.Merging.{AnyLimited, AnyTorn, KeepsAll}
@@ -26,6 +27,6 @@ IsMergeTorn cmp merge whole cut = AnyTorn (TornSource cmp) merge.children.items 
 abbrev pub IsMergeIntact : {K : Type 0} {g : _} → Cmp → Merge K (SourceCursor K g) → Whole → Type 0
 IsMergeIntact cmp merge whole = (cut : Cut) → IsMergeTorn cmp merge whole cut → ⊥
 
--- whatever the memory tables are, it reads the same
+-- whatever the memtables are, it reads the same
 abbrev pub ReadsNoMemory : {K : Type 0} {g : _} → Cmp → Merge K (SourceCursor K g) → Type 0
 ReadsNoMemory cmp merge = (seen : Seen) (old new : Memories) → KeepsMerge cmp merge (record { seen = seen; memory = old }) (record { seen = seen; memory = new })

@@ -44,8 +44,8 @@ GoesOver (Row cursor) number = GoesOverRow cursor number
 abbrev pub OneGoesOver : {K : Type 0} {g : _} → List (Child (SourceCursor K g)) → ℕ → Type 0
 OneGoesOver {K} {g} children number = GoesOverAny (λ (cursor : SourceCursor K g) n. GoesOver cursor n) children number
 
--- What a move of one of them over tables of such numbers leaves, whatever the store returns: the entries of the memory tables,
--- and what is known of the tables.
+-- What a move of one of them over tables of such numbers leaves, whatever the store returns: the
+-- entries of the memtables, and what is known of the tables.
 pub record LeavesSource (cmp : Cmp) (numbers : ℕ → Type 0) (old new : Whole) : Type 0 where
   pub memory : LeavesMemories old.memory new.memory
   pub carries : Carries cmp numbers old.seen new.seen

@@ -1,4 +1,5 @@
--- Over which memory tables and which of a version's tables a scan has cursors (LevelDB's db/version_set.cc, Version::AddIterators).
+-- Over which memtables and which of a version's tables a scan has cursors (LevelDB's
+-- db/version_set.cc, Version::AddIterators).
 use Rattle.std.specs.Prelude.{◌≡◌, ◌⊎◌, ℕ, Option, Some}
 
 -- the generation is one of these

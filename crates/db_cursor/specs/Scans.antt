@@ -34,7 +34,7 @@ ListsMerged cmp merge whole at = IsMerge cmp (ListsSource cmp) merge.children.it
 
 -- ---- what it reads
 
--- it reads the memory table of this generation
+-- it reads the memtable of this generation
 abbrev pub reads_memory : {K : Type 0} {g : _} → Scan K g → ℕ → Type 0
 reads_memory scan generation = IsGenerationOf scan.generation scan.sealed generation
 
@@ -46,14 +46,14 @@ tables_of scan = scan.version.value.tables
 abbrev pub reads_table : {K : Type 0} {g : _} → Scan K g → ℕ → Type 0
 reads_table scan number = ListsNumber (tables_of scan) number ⊎ OneGoesOver scan.walk.cursor.children.items number
 
--- What a scan at the sequence, over memory tables of these generations and tables of these numbers, reads of the first source is the
--- same in the second.
+-- What a scan at the sequence number, over memtables of these generations and tables of these
+-- numbers, reads of the first source is the same in the second.
 pub record KeepsWhole (cmp : Cmp) (generations numbers : ℕ → Type 0) (sequence : ℕ) (old new : Whole) : Type 0 where
   pub memory : (cursor : MemoriesPlace) → generations cursor.generation → cursor.place.sequence ≤ sequence → KeepsMemories cmp cursor old.memory new.memory
   pub files : (number : ℕ) → numbers number → table_at new.seen.facts.files number ≡ table_at old.seen.facts.files number
   pub sound : IsSound cmp old.seen → IsSound cmp new.seen
 
--- What any scan at the sequence reads of the first source is the same in the second.
+-- What any scan at the sequence number reads of the first source is the same in the second.
 pub record KeepsUpTo (cmp : Cmp) (sequence : ℕ) (old new : Whole) : Type 0 where
   pub memory : (cursor : MemoriesPlace) → cursor.place.sequence ≤ sequence → KeepsMemories cmp cursor old.memory new.memory
   pub files : (number : ℕ) → table_at new.seen.facts.files number ≡ table_at old.seen.facts.files number
@@ -84,11 +84,12 @@ IsScanLimited {K} {g} cmp scan whole =
 abbrev pub IsScanTorn : {K : Type 0} {g : _} → Cmp → Scan K g → Whole → Cut → Type 0
 IsScanTorn cmp scan whole cut = AnyTorn (TornSource cmp) scan.walk.cursor.children.items whole cut
 
--- The scan, over this source, is this list of pairs at this place, as far as the blocks of its tables tell: it is each that they may have.
+-- The scan, over this source, is this list of pairs at this place, as far as the blocks of its
+-- tables tell: it is each that they may have.
 pub record MayBeScan {K : Type 0} {g : _} (cmp : Cmp) (scan : Scan K g) (whole : Whole) (at : Walked) : Type 0 where
-  -- the memory tables that it reads are there
+  -- the memtables that it reads are there
   pub there : (generation : ℕ) → reads_memory scan generation → IsSome (table_in whole.memory generation)
-  -- it reads no more than what a scan at its sequence does
+  -- it reads no more than what a scan at its sequence number does
   pub bound : (old new : Whole) → KeepsScan cmp scan old new → KeepsAll (KeepsSource cmp) scan.walk.cursor.children.items old new
   pub limits : IsScanLimited cmp scan whole → IsOnePastLimit cmp (tables_of scan) whole
   pub torn : (cut : Cut) → IsScanTorn cmp scan whole cut → IsOneTornFile cmp (tables_of scan) whole cut
@@ -96,17 +97,18 @@ pub record MayBeScan {K : Type 0} {g : _} (cmp : Cmp) (scan : Scan K g) (whole :
 
 -- The scan, over this source, is this list of pairs at this place.
 pub record IsScan {K : Type 0} {g : _} (cmp : Cmp) (scan : Scan K g) (whole : Whole) (at : Walked) : Type 0 where
-  -- the memory tables that it reads are there
+  -- the memtables that it reads are there
   pub there : (generation : ℕ) → reads_memory scan generation → IsSome (table_in whole.memory generation)
-  -- it reads no more than what a scan at its sequence does
+  -- it reads no more than what a scan at its sequence number does
   pub bound : (old new : Whole) → KeepsScan cmp scan old new → KeepsAll (KeepsSource cmp) scan.walk.cursor.children.items old new
   pub limits : IsScanLimited cmp scan whole → IsOnePastLimit cmp (tables_of scan) whole
   -- the blocks of its tables are intact, so that its list is their own
   pub intact : (cut : Cut) → IsScanTorn cmp scan whole cut → ⊥
   pub walk : IsWalk cmp (ListsMerged cmp) scan.walk whole at
 
--- A new scan over a version of these tables, up to a sequence, goes over the pairs of the view of whichever contents they may have, as far
--- as their blocks tell, in the order of their keys, and has no place.
+-- A new scan over a version of these tables, up to a sequence number, goes over the pairs of the
+-- view of whichever contents they may have, as far as their blocks tell, in the order of their
+-- keys, and has no place.
 abbrev pub MayBeginScan : {K : Type 0} {g : _} → Order → List PlacedTable → ℕ → Whole → Scan K g → Type 0
 MayBeginScan order tables sequence whole scan = (contents : List TableContent) (view : Contents) → sequence ≤ whole.memory.last
     → IsSound order.cmp whole.seen → MayHaveVersion (MayBeTable order.cmp) order whole.seen.facts.files tables contents → IsNewerThan (logged_in whole.memory) (joined (table_sources contents))

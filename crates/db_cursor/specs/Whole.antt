@@ -6,7 +6,7 @@ use Rattle.db_cursor.specs.declared.source.Sources.{Sources}
 use Rattle.table_access.specs.Tables.{Seen, seen, seen_through}
 use Rattle.memtables.specs.Memories.{Memories}
 
--- its store, with what is kept of its tables, and its memory tables
+-- its store, with what is kept of its tables, and its memtables
 pub record Whole : Type 0 where
   pub seen : Seen
   pub memory : Memories

@@ -1,4 +1,5 @@
-//! The cursors over the memory tables and the tables of a version (LevelDB's db/version_set.cc, Version::AddIterators).
+//! The cursors over the memtables and the tables of a version (LevelDB's db/version_set.cc,
+//! Version::AddIterators).
 
 ghost use Rattle.std.specs.Prelude.{◌≡◌, ◌<◌, ◌≤◌, ◌+◌, ◌^◌, ◌++◌, ◌∷◌, ℕ, [], Some, None, length, map, OnOk, IfOk};
 ghost use Rattle.cursor.specs.Merging.{listed};
@@ -21,7 +22,8 @@ use std::alloc::{AllocError, Global};
 use std::rc::Rc;
 use versions::Version;
 
-/// Adds a cursor over the current memory table, and one over the sealed one, where there is one, up to a sequence.
+/// Adds a cursor over the current memtable, and one over the sealed one, if there is one, up to a
+/// sequence number.
 pub fn add_memory<K: KeyOrder>(
     alloc: Global,
     cursors: &mut Vec<SourceCursor<K>>,
@@ -43,7 +45,7 @@ pub fn add_memory<K: KeyOrder>(
     Ok(())
 }
 
-// Adds a cursor over the memory table of a generation.
+// Adds a cursor over the memtable of a generation.
 fn add_table<K: KeyOrder>(
     alloc: Global,
     cursors: &mut Vec<SourceCursor<K>>,
@@ -100,7 +102,7 @@ pub fn add_levels<K: KeyOrder>(
     Ok(())
 }
 
-// Adds a cursor over the tables from one index to another, where there are any.
+// Adds a cursor over the tables from one index to another, if there are any.
 fn add_row<K: KeyOrder>(
     cursors: &mut Vec<SourceCursor<K>>,
     version: &Rc<Version<K>>,

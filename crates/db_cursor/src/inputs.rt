@@ -25,8 +25,8 @@ use store::Store;
 use table_access::sound_lasts;
 use versions::Version;
 
-/// The entries of all tables of a version as one list: a cursor over each table of level 0, and one over each deeper level, merged.
-/// It stands nowhere; nothing is read, and no table is opened.
+/// Merges the entries of all tables of a version into one list: a cursor over each table of level
+/// 0, and one over each deeper level. It stands nowhere; nothing is read, and no table is opened.
 pub fn merge_tables<K: KeyOrder>(
     alloc: Global,
     version: &Rc<Version<K>>,
@@ -49,12 +49,13 @@ pub fn merge_tables<K: KeyOrder>(
     Ok(Merge::new(alloc, cursors)?)
 }
 
-/// Law: a merge over tables alone stays where it is while their files do.
+/// Proves that a merge over tables alone stays where it is while their files do.
 pub fn merge_stays<K: KeyOrder>()
     ensures { (merge : Merge K (SourceCursor K K.KeyOrder)) → MergeIsKept K.cmp merge }
 {}
 
-/// Law: a merge that reads no memory table reads none behind a move, since it reads of each source what it read before.
+/// Proves that a merge that reads no memtable reads none after a move, since it reads of each
+/// source what it read before.
 pub fn moves_read_no_memory<K: KeyOrder, S: Store>()
     ensures { (source : Sources K S) (old new : Merge K (SourceCursor K K.KeyOrder))
         → ((s t : Sources K S) → KeepsMerge K.cmp old (whole_in S.facts s) (whole_in S.facts t)
@@ -62,7 +63,8 @@ pub fn moves_read_no_memory<K: KeyOrder, S: Store>()
         → ReadsNoMemory K.cmp old → ReadsNoMemory K.cmp new }
 {}
 
-/// Law: tables that a compaction writes are apart from those that a merge reads that goes over tables of lower numbers alone.
+/// Proves that tables that a compaction writes are apart from those that a merge reads that goes
+/// over tables of lower numbers alone.
 pub fn inputs_read_apart<K: KeyOrder, S: Store>()
     ensures { (merge : Merge K (SourceCursor K K.KeyOrder)) (next : ℕ) → ReadsNoMemory K.cmp merge
         → AreDisjoint (OneGoesOver merge.children.items) (IsToCome next)

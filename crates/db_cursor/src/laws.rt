@@ -6,7 +6,7 @@ ghost use Rattle.db_cursor.specs.internal.Scanning.{WritesAreKept};
 use ikey::KeyOrder;
 use memtables::changes_are_kept;
 
-/// Law: what is written above a scan's sequence leaves what the scan reads.
+/// Proves that what is written above a scan's sequence number leaves what the scan reads.
 pub fn writes_are_kept<K: KeyOrder>()
     ensures { WritesAreKept K.cmp }
 {
@@ -14,17 +14,18 @@ pub fn writes_are_kept<K: KeyOrder>()
     changes_are_kept::<K>();
 }
 
-/// Law: tables that may have come from those of a version may have its contents.
+/// Proves that tables that may have come from those of a version may have its contents.
 pub fn origins_fit()
     ensures { OriginLaw }
 {}
 
-/// Law: a file may have come from itself, and so has each table that two directories have alike.
+/// Proves that a file may have come from itself, and so has each table that two directories have
+/// alike.
 pub fn same_origin()
     ensures { SameOriginLaw }
 {}
 
-/// Law: a table comes from the same as long as both directories keep its file.
+/// Proves that a table comes from the same as long as both directories keep its file.
 pub fn origin_stays()
     ensures { OriginStaysLaw }
 {}

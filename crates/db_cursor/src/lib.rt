@@ -1,5 +1,5 @@
-//! What the iterators of a database go over: its memory tables and the tables of a version, merged into one list; and what a compaction
-//! goes over: those tables alone.
+//! What the iterators of a database go over: its memtables and the tables of a version, merged into
+//! one list. What a compaction goes over: those tables alone.
 #![tactic(auto)]
 
 mod beginning;

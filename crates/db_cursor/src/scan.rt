@@ -1,4 +1,5 @@
-//! A walk over the pairs of a view (LevelDB's db/db_iter.cc over db/db_impl.cc, DBImpl::NewInternalIterator).
+//! A walk over the pairs of a view (LevelDB's db/db_iter.cc over db/db_impl.cc,
+//! DBImpl::NewInternalIterator).
 
 use crate::beginning::{add_levels, add_memory, add_newest};
 use crate::source::Sources;
@@ -12,13 +13,13 @@ use std::rc::Rc;
 use store::Store;
 use versions::Version;
 
-/// A walk over the pairs of a view, in the order of their keys.
+/// Holds an iteration over the pairs of a view, in the order of their keys.
 #[derive(Drop)]
 pub struct Scan<K: KeyOrder> {
     walk: Visible<K, Merge<K, SourceCursor<K>>>,
     // the tables that it goes over
     version: Rc<Version<K>>,
-    // the generations of the memory tables that it reads
+    // the generations of the memtables that it reads
     generation: u64,
     sealed: Option<u64>,
 }
@@ -35,8 +36,9 @@ impl<K: KeyOrder> Scan<K> {
     ghost use Rattle.db_cursor.specs.Whole.{whole_in};
     ghost use Rattle.versions.specs.Levels as versions;
 
-    /// A scan over what the entries of the memory tables and of a version's tables put up to a sequence, up to the last one
-    /// that is used. It stands nowhere; nothing is read, and no table is opened. It reads no other tables than the version's.
+    /// Makes a scan over what the entries of the memtables and of a version's tables put, up to a
+    /// sequence number and up to the last one used. It stands nowhere; nothing is read, and no
+    /// table is opened. It reads no other tables than the version's.
     pub fn over<S: Store>(
         alloc: Global,
         source: &Sources<K, S>,
@@ -74,8 +76,9 @@ impl<K: KeyOrder> Scan<K> {
         })
     }
 
-    /// Stands on the pair of the least key, or nowhere where there is none. `Corrupt` only where a block of a faithful source to which it
-    /// came is torn, `Unsupported` there or where the file of one of its tables passes a limit of reading.
+    /// Moves to the pair of the least key, or nowhere if there is none. If the source is faithful,
+    /// `Corrupt` comes only from a torn block to which it came. `Unsupported` comes from such a
+    /// block too, or from a table file that passes a limit of reading.
     pub fn first<S: Store>(
         &mut self,
         alloc: Global,
@@ -86,7 +89,7 @@ impl<K: KeyOrder> Scan<K> {
         self.walk.first(alloc, source)
     }
 
-    /// Stands on the pair of the greatest key, or nowhere where there is none.
+    /// Moves to the pair of the greatest key, or nowhere if there is none.
     pub fn last<S: Store>(
         &mut self,
         alloc: Global,
@@ -97,7 +100,7 @@ impl<K: KeyOrder> Scan<K> {
         self.walk.last(alloc, source)
     }
 
-    /// Stands on the pair of the first key that isn't below the target, or nowhere where there is none.
+    /// Moves to the pair of the first key that isn't below the target, or nowhere if there is none.
     pub fn seek<S: Store>(
         &mut self,
         alloc: Global,
@@ -110,7 +113,7 @@ impl<K: KeyOrder> Scan<K> {
         self.walk.seek(alloc, source, target)
     }
 
-    /// Stands on the pair behind, or nowhere where there is none.
+    /// Moves to the next pair, or nowhere if there is none.
     pub fn next<S: Store>(
         &mut self,
         alloc: Global,
@@ -122,7 +125,7 @@ impl<K: KeyOrder> Scan<K> {
         self.walk.next(alloc, source)
     }
 
-    /// Stands on the pair in front, or nowhere where there is none.
+    /// Moves to the previous pair, or nowhere if there is none.
     pub fn prev<S: Store>(
         &mut self,
         alloc: Global,
@@ -134,8 +137,9 @@ impl<K: KeyOrder> Scan<K> {
         self.walk.prev(alloc, source)
     }
 
-    /// Takes back the last move, where it succeeded: the scan stands again on the pair on which it stood before, or nowhere, where
-    /// it stood on none. It takes no memory; the pair can be asked for again after the next move.
+    /// Takes back the last move, if it succeeded: the scan stands again where it stood before, on a
+    /// pair or nowhere. It takes no memory. The pair can be asked for again only after the next
+    /// move.
     pub fn take_back(&mut self, stood: bool)
         ensures cursor { self.new.walk.cursor ≡ self.old.walk.cursor }
         ensures sequence { self.new.walk.sequence ≡ self.old.walk.sequence }
@@ -148,14 +152,15 @@ impl<K: KeyOrder> Scan<K> {
         self.walk.take_back(stood);
     }
 
-    /// Whether the scan stands on a pair.
+    /// Returns whether the scan stands on a pair.
     pub fn stands(&self) -> bool
         ensures { result ≡ self.now.walk.stands }
     {
         self.walk.stands()
     }
 
-    /// A copy of the pair on which the scan stands, after a move that succeeded; nothing where it stands nowhere.
+    /// Returns a copy of the pair on which the scan stands, after a move that succeeded, or None if
+    /// it stands nowhere.
     pub fn pair<S: Store>(
         &self,
         alloc: Global,
@@ -172,42 +177,42 @@ impl<K: KeyOrder> Scan<K> {
         Ok(Some((key, value)))
     }
 
-    /// Whether the scan reads the memory table of this generation.
+    /// Returns whether the scan reads the memtable of this generation.
     pub fn reads(&self, generation: u64) -> bool
         ensures { MatchBool result (reads_memory self.now generation) (reads_memory self.now generation → ⊥) }
     {
         generation == self.generation || self.sealed == Some(generation)
     }
 
-    /// Whether its version has the table of this number.
+    /// Returns whether its version has the table of this number.
     pub fn has_table(&self, number: u64) -> bool
         ensures { MatchBool result (versions.HasNumber number (tables_of self.now)) (versions.HasNumber number (tables_of self.now) → ⊥) }
     {
         self.version.has_number(number)
     }
 
-    /// Law: a scan stays where it is while what it reads is kept.
+    /// Proves that a scan stays where it is while what it reads is kept.
     pub fn stays(&self)
         ensures { ScanIsKept K.cmp self.now }
     {
         let _ = self;
     }
 
-    /// Law: so does each list of pairs that its tables may have.
+    /// Proves that each list of pairs that its tables may have stays too.
     pub fn may_stay(&self)
         ensures { MayBeIsKept K.cmp self.now }
     {
         let _ = self;
     }
 
-    /// Law: where no block is torn, that is the list that they have.
+    /// Proves that if no block is torn, that is the list that they have.
     pub fn is_intact(&self)
         ensures { IntactScans K.cmp self.now }
     {
         let _ = self;
     }
 
-    /// Law: a scan that passes a limit of reading goes over a table whose file does.
+    /// Proves that a scan that passes a limit of reading goes over a table whose file does.
     pub fn past_limit(&self)
         ensures { ScanPastLimit K.cmp self.now }
     {

@@ -5,7 +5,7 @@ use memtables::MemoryTables;
 use store::{HasStore, Store};
 use table_access::Tables;
 
-/// What an open database reads: its store with what is kept of its tables, and its memory tables.
+/// Holds what an open database reads: its store with what is kept of its tables, and its memtables.
 #[derive(Drop)]
 pub struct Sources<K: KeyOrder, S> {
     pub tables: Tables<K, S>,

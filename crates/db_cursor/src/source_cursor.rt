@@ -10,7 +10,8 @@ use std::alloc::Global;
 use store::Store;
 use table_access::Tables;
 
-/// A cursor over one of the memory tables, or over a row of tables of a version, of what an open database reads.
+/// Holds a cursor over one of the memtables of an open database, or over a sequence of tables of a
+/// version.
 #[derive(Drop)]
 pub enum SourceCursor<K: KeyOrder> {
     Memory(MemoriesCursor<K>),

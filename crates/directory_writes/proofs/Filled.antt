@@ -1,4 +1,4 @@
--- The entries of a memory table, added to a table file one after the other.
+-- The entries of a memtable, added to a table file one after the other.
 use Rattle.std.proofs.Common.{◌≡◌, ◌⊎◌, ◌+◌, ◌-◌, ◌<◌, ◌≤◌, ◌^◌, ℕ, zero, suc, Bool, cond, Option, Some, None, IsTrue, IsSome, List, [], ◌∷◌, ◌++◌, length, inl, inr, refl, sym, ap, subst, ◌∙◌, arith, append_assoc}
 use Rattle.std.proofs.lemmas.List.{append-nil}
 use Rattle.std.specs.Prelude.{IfSome}
@@ -96,7 +96,8 @@ module _ (cmp : List ℕ → List ℕ → Ordering) (inserts : List Entry) where
       below_last front one later (Some (internal_key x.entry)) (λ other is. (let same : internal_key x.entry ≡ other = cc in subst P same next)) fits.1 rises.1 last e
 
   module _ (start : Building) (old : Facts) where
-    -- How far the entries were added: those in front are in the table, and the node is the first of the others.
+    -- How far the entries were added: those in front are in the table, and the node is the first of
+    -- the others.
     pub record HasAdded (builder : Building) (facts : Facts) (at : Option ℕ) (steps : ℕ) : Type 0 where
       pub front : List Placed
       pub back : List Placed

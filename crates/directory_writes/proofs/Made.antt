@@ -1,4 +1,4 @@
--- The table file that was made of a memory table.
+-- The table file that was made of a memtable.
 use Rattle.std.proofs.Common.{◌≡◌, ◌<◌, ◌^◌, ℕ, Option, Some, None, List, [], ◌∷◌, length, map, inl, inr, refl, sym, ap, subst, ◌∙◌}
 use Rattle.std.specs.FinMap.{get, IsAntisymmetric}
 use Rattle.std.specs.List.{AllByRecursion}

@@ -1,4 +1,5 @@
--- Tables parted into those that are chosen and the rest, and what is known of the entries of some of them.
+-- Tables parted into those that are chosen and the rest, and what is known of the entries of some
+-- of them.
 use Rattle.std.proofs.Common.{◌≡◌, ◌≢◌, ◌⊎◌, inl, inr, ◌<◌, ℕ, suc, Bool, true, false, cond, Some, None, List, [], ◌∷◌, ◌++◌, length, get_or, map, refl, sym, ap, ◌∙◌, subst, arith, AllPairs}
 use Rattle.std.proofs.lemmas.List.Sorted.{IsPermutation-refl, IsPermutation-sym, IsPermutation-trans, IsPermutation-cons, IsPermutation-middle}
 use Rattle.std.specs.List.{AllByRecursion}

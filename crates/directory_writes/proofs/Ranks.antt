@@ -1,4 +1,4 @@
--- The entries of a memory table in internal order.
+-- The entries of a memtable in internal order.
 use Rattle.std.proofs.Common.{◌≡◌, ◌⊎◌, ℕ, true, false, Some, None, List, [], ◌∷◌, ◌++◌, map, nat_lt, inl, inr, refl, sym, ap, subst, ◌∙◌}
 use Rattle.std.proofs.lemmas.Bool.{ltb-true}
 use Rattle.std.proofs.lemmas.List.{reverse-append}

@@ -1,4 +1,4 @@
--- How much room the entries of a memory table need in a table file.
+-- How much room the entries of a memtable need in a table file.
 use Rattle.std.proofs.Common.{◌≡◌, ◌<◌, ◌≤◌, ◌+◌, ◌^◌, ℕ, List, [], ◌∷◌, ◌++◌, length, inl, inr, refl, ap, ◌∙◌, arith, length-append}
 use Rattle.std.proofs.lemmas.Bool.{cond_both}
 use Rattle.std.specs.declared.cmp.Ordering.{Ordering}

@@ -1,5 +1,5 @@
--- Directories that differ in their tables alone, as a damaged one and each from which its files may come, and what the same calls make
--- of both.
+-- Directories that differ in their tables alone, as a damaged one and each from which its files may
+-- come, and what the same calls make of both.
 use Rattle.std.specs.Prelude.{◌≡◌, ◌⊎◌, ℕ, List, []}
 use Rattle.std.specs.FinMap.{get, contains_key}
 use Rattle.edits.specs.Names.{name_of, IsNumbered}
@@ -15,12 +15,14 @@ pub record DiffersInTables (files whole : Files) : Type 0 where
   pub names : (name : List ℕ) → contains_key whole name ≡ contains_key files name
   pub others : (name : List ℕ) → (IsNameOfTable name → ⊥) → get whole name ≡ get files name
 
--- What changed from `old` to `new`, done to `whole`: a file that stayed stays there too, and each other is as it is in `new`.
+-- What changed from `old` to `new`, done to `whole`: a file that stayed stays there too, and each
+-- other is as it is in `new`.
 pub record IsSameChange (old new whole after : Files) : Type 0 where
   pub stays : (name : List ℕ) → get new name ≡ get old name → get after name ≡ get whole name
   pub changes : (name : List ℕ) → (get new name ≡ get old name → ⊥) → get after name ≡ get new name
 
--- What is said of a change is so of the same change to each directory that differs from the old one in tables alone.
+-- What is said of a change is so of the same change to each directory that differs from the old one
+-- in tables alone.
 abbrev pub OfEach : (Files → Files → Type 0) → Files → Files → Type 0
 OfEach leads old new = (whole after : Files) → DiffersInTables old whole → IsSameChange old new whole after → leads whole after
 

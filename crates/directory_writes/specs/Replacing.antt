@@ -16,8 +16,8 @@ use Rattle.compact.specs.JobEdits.{IsPlanProper}
 abbrev pub placed_in : List TableContent → List PlacedTable
 placed_in contents = map (λ (content : TableContent). content.placed) contents
 
--- The inputs of the plan are gone, and tables of its output level are in their place: each table was there and is no input, or is of that
--- level. Each of another number than theirs stays.
+-- The inputs of the plan are gone, and tables of its output level are in their place: each table
+-- was there and is no input, or is of that level. Each of another number than theirs stays.
 pub record ReplacesInputs (plan : JobPlan) (old new : List PlacedTable) : Type 0 where
   pub tables : (placed : PlacedTable) → Contains new placed → (Contains old placed × (Contains plan.inputs.items placed → ⊥)) ⊎ (placed.level ≡ plan.output_level)
   pub stays : (placed : PlacedTable) → Contains old placed → ((input : PlacedTable) → Contains plan.inputs.items input → input.table.number ≢ placed.table.number) → Contains new placed
@@ -26,9 +26,9 @@ pub record ReplacesInputs (plan : JobPlan) (old new : List PlacedTable) : Type 0
 abbrev pub OwnsNone : TablesWritten → List PlacedTable → Type 0
 OwnsNone w tables = (number : ℕ) → IsOwn w number → is_used number tables ≡ false
 
--- The tables are the plan's inputs and the rest. The inputs may be replaced by tables of the plan's level: of a key that they
--- have, the rest has newer entries, or the key is a deep one. No two of their entries share key and sequence, and an edit
--- can name them.
+-- The tables are the plan's inputs and the rest. The inputs may be replaced by tables of the plan's
+-- level: of a key that they have, the rest has newer entries, or the key is a deep one. No two of
+-- their entries share key and sequence number, and an edit can name them.
 pub record IsPlanned (order : Order) (deep : List ℕ → Bool) (plan : JobPlan) (contents inputs rest : List TableContent) : Type 0 where
   pub parted : AreParted contents inputs rest
   pub planned : IsPermutation plan.inputs.items (placed_in inputs)

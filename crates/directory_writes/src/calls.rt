@@ -1,4 +1,4 @@
-//! Calls of the store, with the database's refusals.
+//! Calls of the store, with the database's errors.
 
 ghost use Rattle.std.specs.Prelude.{◌≡◌, ◌⊎◌, ℕ, List, [], None, IfErr, IsTrue, OnOk};
 ghost use Rattle.std.specs.FinMap.{insert};
@@ -13,7 +13,7 @@ ghost use Rattle.directory_writes.specs.internal.Calls.{Touches, IsRefusalOf, Cr
 use coding::DbError;
 use store::{Store, StoreError};
 
-/// Why a call was refused that doesn't look for a file.
+/// Returns why a call failed that doesn't look for a file.
 pub fn refusal_of(error: StoreError) -> DbError
     ensures { IsRefusalOf error result }
 {
@@ -44,7 +44,7 @@ pub fn create_file<S: Store>(store: &mut S, name: &str) -> Result<(), DbError>
     }
 }
 
-/// Puts bytes behind a file, and has the device keep it.
+/// Appends bytes to a file, and syncs it.
 pub fn append_synced<S: Store>(store: &mut S, name: &str, bytes: &[u8]) -> Result<(), DbError>
     ensures call { Touches (S.facts store.old) (S.facts store.new) }
     ensures fails { FailsAsWrite (S.facts store.old) (S.facts store.new) }

@@ -1,5 +1,5 @@
-//! A flush: a sealed memory table becomes a table file, in place of the logs in front of the current one (LevelDB's
-//! db/db_impl.cc, DBImpl::CompactMemTable).
+//! A flush: a sealed memtable becomes a table file, which replaces the logs before the current one
+//! (LevelDB's db/db_impl.cc, DBImpl::CompactMemTable).
 
 ghost use Rattle.std.specs.Prelude.{◌≡◌, ◌<◌, ◌^◌, ℕ, List, [], IfOk, IfErr, IsTrue, OnOk, length, string_bytes};
 ghost use Rattle.edits.specs.Layout.{after_edit};
@@ -31,20 +31,20 @@ use std::rc::Rc;
 use store::Store;
 use versions::Version;
 
-/// What the edit of a flush says beside its table, and where a data block of the table ends.
+/// Holds what the edit of a flush says beside its table, and where a data block of the table ends.
 #[derive(Clone, Copy, Debug)]
 pub struct FlushPlan {
     /// The number of the current log, the first that is read after the flush.
     pub log_number: u64,
-    /// The previous log of the layout, or 0 where there is none.
+    /// The previous log of the layout, or 0.
     pub previous_log_number: u64,
-    /// The last sequence that is used.
+    /// The last sequence number that is used.
     pub last_sequence: u64,
     /// With how many bytes a data block is ended.
     pub block_bytes: usize,
 }
 
-/// What is new after a flush.
+/// Holds what is new after a flush.
 #[derive(Drop)]
 pub struct Flushed<K: KeyOrder> {
     /// The version with the table.
@@ -55,16 +55,17 @@ pub struct Flushed<K: KeyOrder> {
     pub number: u64,
 }
 
-/// Why a memory table wasn't flushed.
+/// Tells why a memtable wasn't flushed.
 #[derive(Clone, Copy, Debug, PartialEq, Eq)]
 pub enum FlushError {
     /// The directory means what it did. A part of a table that it doesn't read may be there.
     Before(DbError),
-    /// The store failed while the edit was put behind the MANIFEST, so that it is there or not.
+    /// The store failed while the edit was appended to the MANIFEST, so that it is there or not.
     Edit,
 }
 
-/// A table that is written, the edit that puts it into the layout, and the version after that.
+/// Holds a table that is written, the edit that puts it into the layout, and the version after
+/// that.
 #[derive(Drop)]
 pub struct Prepared<K: KeyOrder> {
     /// The number of the table.
@@ -75,10 +76,11 @@ pub struct Prepared<K: KeyOrder> {
     pub version: Rc<Version<K>>,
 }
 
-/// Draws a number, writes the entries of a memory table, which has some, into the table of that number, and puts an edit behind the
-/// MANIFEST that has this table at level 0 in place of all logs in front of the current one. All growth comes before the edit.
-/// Refused before it out of memory, with Io where the store fails, with NumbersSpent, as Unsupported where a block would have
-/// more than 2^30 bytes, and as Corrupt where the version has a table of the number that is next.
+/// Draws a number, writes the entries of a memtable, which has some, into the table of that number,
+/// and appends an edit to the MANIFEST. The edit puts this table into level 0 and replaces all logs
+/// before the current one. All growth comes before the edit. It fails before the edit out of
+/// memory, with Io if the store fails, or with NumbersSpent. Unsupported: a block would have more
+/// than 2^30 bytes. Corrupt: the version has a table of the number that is next.
 pub fn flush_memory<K: KeyOrder, S: Store>(
     alloc: Global,
     store: &mut S,
@@ -176,7 +178,7 @@ fn prepare<K: KeyOrder, S: Store>(
     })
 }
 
-// The version after an edit. Corrupt, where it has no room for the edit's tables.
+// The version after an edit. Corrupt: it has no room for the edit's tables.
 pub(crate) fn version_after<K: KeyOrder>(
     alloc: Global,
     version: &Version<K>,
@@ -188,7 +190,7 @@ pub(crate) fn version_after<K: KeyOrder>(
     ensures old { AreInOrder K.cmp version.now.tables }
     ensures refused { IfErr result (λ error. RefusesVersion error (LeadsAstray K.cmp (after_edit edit.now) version.now.tables)) }
 {
-    // For the proof alone, here and behind the edit: the tables are in order.
+    // For the proof alone, here and after the edit: the tables are in order.
     let _tables = version.tables();
     let after = match version.after(alloc, edit.fields()) {
         Ok(after) => after,
@@ -201,7 +203,7 @@ pub(crate) fn version_after<K: KeyOrder>(
     Ok(shared)
 }
 
-// Where the store fails, the edit is in doubt. Out of memory nothing of it is there.
+// If the store fails, the edit is in doubt. Out of memory nothing of it is there.
 pub(crate) fn edit_refusal(error: DbError) -> FlushError
     ensures { result ≡ edit_refusal error }
 {

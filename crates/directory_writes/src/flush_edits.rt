@@ -10,8 +10,9 @@ ghost use Rattle.directory_writes.specs.internal.FlushEdits.{IsAfterFlush, flush
 use edits::{Edit, Field, PlacedTable, TableFile};
 use std::alloc::{AllocError, Global};
 
-/// The edit that puts a table into level 0 in place of all logs in front of one: its fields in our writer's order. The
-/// previous log is that of the layout, or 0 where there is none. It is refused only where memory runs out.
+/// Builds the edit that puts a table into level 0 and replaces all logs before this one, with its
+/// fields in our writer's order. The previous log is that of the layout, or 0. It fails only out of
+/// memory.
 pub fn flush_edit(
     alloc: Global,
     log_number: u64,
@@ -25,7 +26,8 @@ pub fn flush_edit(
     ensures proper { IfOk result (λ edit. All IsProper edit) }
     ensures order { IfOk result (λ edit. IsInOrder edit) }
     ensures fields { IfOk result (λ edit. edit ≡ flush_fields log_number previous_log_number next_file_number last_sequence table) }
-    // Behind the edits of a layout without a table of this number it leaves the layout after the flush.
+    // After the edits of a layout without a table of this number it leaves the layout after the
+    // flush.
     ensures folds { IfOk result (λ edit. (name : List ℕ) (edits : List (List FieldValue)) (old new : LayoutValue) → IsLayout name edits old
         → old.previous_log_number ≡ previous_log_number → is_used table.number old.tables.items ≡ false
         → IsAfterFlush log_number next_file_number last_sequence table old new → IsLayout name (edits ++ edit ∷ []) new) }
@@ -41,7 +43,7 @@ pub fn flush_edit(
     Ok(edit)
 }
 
-// Gives the previous log up, where there is one.
+// Drops the previous log, if there is one.
 fn push_previous(edit: &mut Edit, number: u64) -> Result<(), AllocError>
     ensures { OnOk result (edit.new ≡ edit.old ++ previous_gone number) }
 {

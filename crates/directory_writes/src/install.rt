@@ -1,4 +1,5 @@
-//! The end of a job: its outputs come in the place of its inputs (LevelDB's db/db_impl.cc, InstallCompactionResults).
+//! The end of a job: its outputs come in the place of its inputs (LevelDB's db/db_impl.cc,
+//! InstallCompactionResults).
 
 ghost use Rattle.std.specs.Prelude.{◌≡◌, ◌⊎◌, ◌<◌, ◌^◌, [], IfOk, IfErr, IsTrue, OnOk, string_bytes};
 ghost use Rattle.std.specs.FinMap.{get};
@@ -26,7 +27,7 @@ use std::rc::Rc;
 use store::Store;
 use versions::Version;
 
-/// What is new once a job is installed.
+/// Holds what is new once a job is installed.
 #[derive(Drop)]
 pub struct Installed<K: KeyOrder> {
     /// The version with the outputs in the place of the inputs.
@@ -35,7 +36,7 @@ pub struct Installed<K: KeyOrder> {
     pub manifest_end: u64,
 }
 
-/// The edit of a job, and the version after it.
+/// Holds the edit of a job, and the version after it.
 #[derive(Drop)]
 pub struct PreparedJob<K: KeyOrder> {
     /// The edit.
@@ -44,10 +45,11 @@ pub struct PreparedJob<K: KeyOrder> {
     pub version: Rc<Version<K>>,
 }
 
-/// Ends a job whose inputs have ended, and puts its edit behind the MANIFEST, so that its outputs are in the place of its
-/// inputs. All growth comes before the edit. Refused before it out of memory, with Io where the store fails, as Unsupported where
-/// a block of the last table would be too long, and as Corrupt where the version isn't that of the inputs. After a refusal the
-/// job is given up: the files that it wrote are no part of the database.
+/// Ends a job whose inputs have ended, and appends its edit to the MANIFEST, so that its outputs
+/// replace its inputs. All growth comes before the edit. It fails before the edit out of memory,
+/// with Io if the store fails, or as below. Unsupported: a block of the last table would be too
+/// long. Corrupt: the version isn't that of the inputs. After an error the job is given up: the
+/// files that it wrote are no part of the database.
 pub fn install_job<K: KeyOrder, C: Drop, S: Store>(
     alloc: Global,
     store: &mut S,

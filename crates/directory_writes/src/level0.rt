@@ -1,4 +1,4 @@
-//! A memory table as a table file of level 0 (LevelDB's db/builder.cc, BuildTable).
+//! A memtable as a table file of level 0 (LevelDB's db/builder.cc, BuildTable).
 
 ghost use Rattle.std.specs.Prelude.{◌≡◌, ◌<◌, ◌^◌, ◌++◌, ◌∷◌, [], ℕ, List, Some, None, IsTrue, IsSome, IfOk, IfErr, OnOk, length};
 ghost use Rattle.std.specs.FinMap.{get};
@@ -32,10 +32,10 @@ use std::alloc::{AllocError, Global};
 use store::Store;
 use table::{TableBuilder, sync};
 
-/// Writes all entries of a memory table, which has some, in internal order into the table file of this number, and has the
-/// device keep it. The answer is what an edit says of the table. A data block is ended by the entry with which it has
-/// `block_bytes` bytes. Refused out of memory, with Io where the store fails, and as Unsupported where a block would have
-/// more than 2^30 bytes; then the file may be there in part.
+/// Writes all entries of a memtable, which has some, in internal order into the table file of this
+/// number, and syncs it. Returns what an edit says of the table. A data block ends with the entry
+/// that brings it to `block_bytes` bytes. It fails out of memory, with Io if the store fails, and
+/// as Unsupported if a block would have more than 2^30 bytes; then the file may be there in part.
 pub fn write_level0<K: KeyOrder, S: Store>(
     alloc: Global,
     store: &mut S,
@@ -81,7 +81,7 @@ pub fn write_level0<K: KeyOrder, S: Store>(
     })
 }
 
-// The internal key of the entry at a place. Unsupported, where it is longer than a block may be.
+// The internal key of the entry at a place. Unsupported: it is longer than a block may be.
 fn key_at<K: KeyOrder>(alloc: Global, memory: &MemTable<K>, node: Node) -> Result<Bytes, DbError>
     requires place { IsPlace memory.now.inserts node }
     requires sequences { HaveSequences memory.now.inserts }
@@ -98,7 +98,7 @@ fn key_at<K: KeyOrder>(alloc: Global, memory: &MemTable<K>, node: Node) -> Resul
     Ok(Bytes::from_vec(key))
 }
 
-// Writes the entries into the table file of this name, ends it, and has the device keep it. The answer is its length.
+// Writes the entries into the table file of this name, ends it, and syncs it. Answers its length.
 fn write_entries<K: KeyOrder, S: Store>(
     alloc: Global,
     store: &mut S,

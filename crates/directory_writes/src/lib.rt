@@ -1,5 +1,5 @@
-//! What an open database does to its directory while it serves: it puts edits behind the MANIFEST, begins logs, writes its memory
-//! into tables, and removes files that aren't live (LevelDB's doc/impl.md).
+//! What an open database does to its directory while it serves (LevelDB's doc/impl.md). It appends
+//! edits to the MANIFEST, begins logs, writes its memory into tables, and removes obsolete files.
 #![tactic(auto)]
 
 mod calls;

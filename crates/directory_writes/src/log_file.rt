@@ -21,9 +21,10 @@ use recover::begin_log_law;
 use std::alloc::Global;
 use store::Store;
 
-/// Draws a number, makes the empty log of that number, and answers both it and the name of its file (LevelDB's db/db_impl.cc,
-/// DBImpl::MakeRoomForWrite). The log is synced with the first record that is to be kept. Refused out of memory, with
-/// NumbersSpent, and with Io where the store fails: the log is there or not then.
+/// Draws a number, makes the empty log of that number, and answers both it and the name of its file
+/// (LevelDB's db/db_impl.cc, DBImpl::MakeRoomForWrite). The log is synced with the first record
+/// that must be kept. It fails out of memory, with NumbersSpent, or with Io if the store fails:
+/// then the log is there or not.
 pub fn begin_log<S: Store>(
     alloc: Global,
     store: &mut S,

@@ -19,7 +19,7 @@ use recover::{edit_law, failed_edit_law, one_manifest};
 use std::alloc::Global;
 use store::Store;
 
-/// The MANIFEST that `CURRENT` names.
+/// Names the MANIFEST that `CURRENT` names.
 #[derive(Debug, Drop)]
 pub struct CurrentManifest {
     /// Its file number.
@@ -30,9 +30,9 @@ pub struct CurrentManifest {
     pub end: u64,
 }
 
-/// Puts an edit behind the MANIFEST with one append and a sync, and answers where it ends then (LevelDB's
-/// db/version_set.cc, VersionSet::LogAndApply). All memory is taken before the store is touched. Refused only out of
-/// memory, and with Io where the store fails: the edit is there or not then.
+/// Appends an edit to the MANIFEST, syncs it, and returns where the MANIFEST ends then (LevelDB's
+/// db/version_set.cc, VersionSet::LogAndApply). All memory is taken before the store is touched. It
+/// fails only out of memory, or with Io if the store fails: then the edit is there or not.
 pub fn append_edit<S: Store>(
     alloc: Global,
     store: &mut S,
@@ -48,7 +48,7 @@ pub fn append_edit<S: Store>(
     ensures appends { (order : Order) → AppendsEdit order (S.facts store.old) (S.facts store.new) manifest.now.number
         (string_bytes manifest.now.name) manifest.now.end edit.now result }
     ensures syncs { SyncsEdit (S.facts store.old) (S.facts store.new) (string_bytes manifest.now.name) result }
-    // What a stop leaves in its middle is what a failure of the device does.
+    // A process crash in its middle leaves what a failed call of the store leaves.
     ensures stops { IsTrue (S.facts store.new).faithful → (order : Order) → LeavesOnly (S.facts store.old) (S.facts store.new)
         (λ files. AppendsEdit order (S.facts store.old) (stopped_at (S.facts store.old) files) manifest.now.number
         (string_bytes manifest.now.name) manifest.now.end edit.now (Err Io)) }

@@ -1,29 +1,30 @@
-//! What a plan takes of the tables of a directory (LevelDB's db/version_set.cc, `VersionSet::PickCompaction`), until its job
-//! is done.
+//! What a plan takes of the tables of a directory (LevelDB's db/version_set.cc,
+//! `VersionSet::PickCompaction`), until its job is done.
 
 ghost use Rattle.directory_writes.specs.internal.Planned.{PlannedLaw, ClosedPlanLaw, FlushedPlanLaw, PlannedApartLaw, OwnSequencesLaw};
 
-/// Law: each plan for a version of a directory takes tables that may be replaced by the outputs of its job.
+/// Proves that each plan for a version of a directory takes tables that may be replaced by the
+/// outputs of its job.
 pub fn planned_law()
     ensures { PlannedLaw }
 {}
 
-/// Law: the inputs of a plan for a level bring no further table along.
+/// Proves that the inputs of a plan for a level bring no further table along.
 pub fn closed_plan_law()
     ensures { ClosedPlanLaw }
 {}
 
-/// Law: a flush while a job is under way leaves its inputs such tables.
+/// Proves that a flush while a job is under way leaves its inputs such tables.
 pub fn flushed_plan_law()
     ensures { FlushedPlanLaw }
 {}
 
-/// Law: what lies beside the inputs of a plan is newer, or the job knows of its keys.
+/// Proves that what lies beside the inputs of a plan is newer, or the job knows of its keys.
 pub fn planned_apart_law()
     ensures { PlannedApartLaw }
 {}
 
-/// Law: no two entries that a job merges share key and sequence.
+/// Proves that no two entries that a job merges share key and sequence number.
 pub fn own_sequences_law()
     ensures { OwnSequencesLaw }
 {}

@@ -1,4 +1,4 @@
-//! The removal of files that aren't live.
+//! The removal of obsolete files.
 
 ghost use Rattle.std.specs.Prelude.{◌≡◌, ◌⊎◌, ◌↔◌, ◌≤◌, ◌∷◌, ◌++◌, [], ℕ, List, true};
 ghost use Rattle.std.specs.FinMap.{contains_key};
@@ -25,30 +25,32 @@ use std::alloc::{AllocError, Global};
 use store::{Store, StoreError};
 use versions::LiveNumbers;
 
-/// Which tables are in use: those of the current version, of open iterators' versions, and those that a compaction under way reads or has
-/// written (`engine`'s `readers.rt` answers it).
+/// Tells which tables are in use: those of the current version, of open iterators' versions, and
+/// those that a compaction under way reads or has written (`engine`'s `readers.rt` answers it).
 pub trait LiveTables {
     ghost has: { Self → ℕ → Type 0 };
 
-    /// Whether the table of this number is in use.
+    /// Returns whether the table of this number is in use.
     fn has_table(&self, number: u64) -> bool
         ensures { MatchBool result (has self.now number) (has self.now number → ⊥) };
 }
 
-/// What a removal leaves.
+/// Tells what a removal leaves.
 #[derive(Debug, Drop)]
 pub struct Removal {
-    /// Whether all files of a known shape are gone that aren't live.
+    /// Whether all obsolete files of a known shape are gone.
     pub complete: bool,
-    /// The numbers of the tables that aren't in use, once for each of their files that was there, and of those that had a file under both names:
-    /// whatever of them is open has to be closed.
+    /// The numbers of tables to close, if they are open. Those that aren't in use are listed once
+    /// for each of their files that was there. Those that had a file under both names are listed
+    /// too.
     pub tables: Vec<u64>,
 }
 
-/// Removes each file of a known shape that isn't live (LevelDB's db/db_impl.cc, DBImpl::RemoveObsoleteFiles). One that can't
-/// be removed is left for the next time. Of a table that has both names the file with the newer one, which is the one that is
-/// read, goes last, and stays where the table is in use: so nobody reads other bytes under its number. Refused only where the files can't be listed: out of memory, and with Io where
-/// the store fails; nothing is removed then.
+/// Removes each obsolete file of a known shape (LevelDB's db/db_impl.cc,
+/// DBImpl::RemoveObsoleteFiles). A file that can't be removed is left for the next time. If a table
+/// has files of both names, the newer name is the one that is read: its file goes last, and stays
+/// if the table is in use. So nobody reads other bytes under its number. It fails only if the files
+/// can't be listed: out of memory, or with Io if the store fails; nothing is removed then.
 pub fn remove_files<S: Store, L: LiveTables>(
     alloc: Global,
     store: &mut S,
@@ -62,7 +64,7 @@ pub fn remove_files<S: Store, L: LiveTables>(
         (IsLiveAmong (S.facts store.old).files numbers.now (L.has live.now)) result }
     ensures tidy { IsTrue (S.facts store.new).faithful → IfOk result (λ removal. IsTrue removal.complete → (file : FileNameValue) → IsFileName file
         → contains_key (S.facts store.new).files (name_of file) ≡ true → IsLiveAmong (S.facts store.new).files numbers.now (L.has live.now) file) }
-    // Newer files wait where an older one couldn't be removed.
+    // Newer files wait if an older one couldn't be removed.
     ensures few { OnOk result (LeavesFew (S.facts store.old) (S.facts store.new)
         (IsLiveAmong (S.facts store.old).files numbers.now (L.has live.now))
         (HasOlderToo (S.facts store.old).files) (λ name. contains_key (S.facts store.old).files name ≡ true)) }
@@ -149,7 +151,8 @@ fn older_number(file: FileName) -> Option<u64>
     }
 }
 
-// The numbers of the tables that have a file under both names, where these are the numbers of those with the older one.
+// The numbers of the tables that have a file under both names, where these are the numbers of those
+// with the older one.
 fn doubled_tables(alloc: Global, names: &[String], older: &[u64]) -> Result<Vec<u64>, AllocError>
     ensures { IfOk result (λ numbers. AreBoth older.now (map string_bytes names.now) numbers.items) }
 {
@@ -199,7 +202,8 @@ fn newer_number(file: FileName) -> Option<u64>
     }
 }
 
-// The numbers of the tables that aren't in use, once for each of these that is the name of their file, and those that have both.
+// The numbers of the tables that aren't in use, once for each of these names that is their file's,
+// and of those that have files of both names.
 fn tables_to_close<L: LiveTables>(
     alloc: Global,
     names: &[String],
@@ -263,8 +267,8 @@ fn table_number(file: FileName) -> Option<u64>
     }
 }
 
-// Removes each of these that isn't live: first all but the newer files of tables that have two, and then, where nothing of the
-// others is left, these. Whether all are gone.
+// Removes each of these that is obsolete, and answers whether all are gone. Of tables that have two
+// files the newer ones go last, and only if nothing else is left.
 fn remove_listed<S: Store, L: LiveTables>(
     store: &mut S,
     names: &[String],
@@ -292,7 +296,8 @@ fn remove_listed<S: Store, L: LiveTables>(
     remove_turn(store, names, numbers, live, both, true)
 }
 
-// Removes those that aren't live and have this turn, the first or the last. Whether they are gone.
+// Removes the obsolete ones that have this turn, the first or the last. Answers whether they are
+// gone.
 fn remove_turn<S: Store, L: LiveTables>(
     store: &mut S,
     names: &[String],
@@ -320,7 +325,8 @@ fn remove_turn<S: Store, L: LiveTables>(
     gone
 }
 
-// Removes the file of this name where it isn't live and has this turn. Whether it is gone then.
+// Removes the file of this name if it is obsolete and has this turn. Answers whether it is gone
+// then.
 fn remove_dead<S: Store, L: LiveTables>(
     store: &mut S,
     name: &str,

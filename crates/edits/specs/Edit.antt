@@ -1,4 +1,5 @@
--- Version edits (LevelDB's db/version_edit.cc): fields one after the other, each a tag and its content.
+-- Version edits (LevelDB's db/version_edit.cc): fields one after the other, each a tag and its
+-- content.
 use Rattle.std.specs.Prelude.{◌≡◌, ◌⊎◌, ◌<◌, ◌≤◌, ◌^◌, ℕ, List, [], ◌∷◌, ◌++◌, length}
 use Rattle.coding.specs.Varint.{IsVarint, IsString}
 use Rattle.coding.specs.declared.error.ReadError.{ReadError}
@@ -10,7 +11,7 @@ use Rattle.edits.specs.declared.field.TableFile.{TableFile}
 use Rattle.coding.specs.Spelling.{InTurn}
 use Rattle.ikey.specs.Keys.{Key, IsKey}
 
--- a number of at most 64 bits, a sequence, a level, the number of a table
+-- a number of at most 64 bits, a sequence number, a level, the number of a table
 abbrev pub IsLong : List ℕ → ℕ → Type 0
 IsLong bytes n = IsVarint bytes n × (n < 2 ^ 64)
 
@@ -87,7 +88,8 @@ abbrev pub HasPastLimit : List Field → Type 0
 HasPastLimit [] = ⊥
 HasPastLimit (field ∷ fields) = IsPastLimit field ⊎ HasPastLimit fields
 
--- Why bytes weren't read: out of memory, since they are damaged, or since they are past what is supported.
+-- Why bytes weren't read: out of memory, since they are damaged, or since they are past what is
+-- supported.
 abbrev pub RefusesFor : ReadError → Type 0 → Type 0 → Type 0
 RefusesFor Memory damaged unsupported = Unit {0}
 RefusesFor (Corrupt what) damaged unsupported = damaged

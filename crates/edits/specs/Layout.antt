@@ -1,5 +1,5 @@
--- The layout that the edits of a MANIFEST leave (LevelDB's doc/impl.md, "Manifest", and its db/version_set.cc,
--- VersionSet::Recover and VersionSet::Builder).
+-- The layout that the edits of a MANIFEST leave (LevelDB's doc/impl.md, "Manifest", and its
+-- db/version_set.cc, VersionSet::Recover and VersionSet::Builder).
 use Rattle.std.specs.Prelude.{◌≡◌, ◌≢◌, ◌⊎◌, ◌==◌, ◌&&◌, ◌||◌, nat_lt, ℕ, Bool, true, false, if◌then◌else◌, codes, List, [], ◌∷◌, ◌++◌, map, Option, Some, None, unwrap_or, option_map, option_and_then}
 use Rattle.std.specs.List.{AllByRecursion}
 use Rattle.std.specs.Option.{option_or}
@@ -118,8 +118,8 @@ after_new (field ∷ fields) tables = after_new fields tables
 abbrev pub after_edit : List Field → List PlacedTable → Option (List PlacedTable)
 after_edit edit tables = option_and_then (after_new edit) (after_deleted edit tables)
 
--- The tables after these edits. There are none where an edit deletes a file that isn't there, or adds a
--- number that is.
+-- The tables after these edits. There are none where an edit deletes a file that isn't there, or
+-- adds a number that is.
 abbrev pub after_edits : List (List Field) → List PlacedTable → Option (List PlacedTable)
 after_edits [] tables = Some tables
 after_edits (edit ∷ edits) tables = option_and_then (after_edits edits) (after_edit edit tables)

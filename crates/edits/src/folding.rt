@@ -27,20 +27,20 @@ struct Numbers {
     previous_log: Option<u64>,
 }
 
-/// The layout that the edits of a MANIFEST leave, where keys are in the order of this name (LevelDB's
-/// db/version_set.cc, `VersionSet::Recover` and `VersionSet::Builder`). Of each number and compact pointer
-/// the last one counts. Within an edit deleted files go before new ones.
+/// Returns the layout that the edits of a MANIFEST leave, if keys are in the order of this name
+/// (LevelDB's db/version_set.cc, `VersionSet::Recover` and `VersionSet::Builder`). Of each number
+/// and compact pointer the last one counts. Within an edit deleted files go before new ones.
 ///
-/// Unsupported: an edit names another order, whichever edit it is, or none names an order and this isn't
-/// `leveldb.BytewiseComparator`. Corrupt: the log number, the next file
-/// number or the last sequence is in no edit, or an edit deletes a file that isn't at that level, or adds
-/// one whose number is there.
+/// Unsupported: an edit names another order, whichever edit it is, or none names an order and this
+/// isn't `leveldb.BytewiseComparator`. Corrupt: the log number, the next file number or the last
+/// sequence number is in no edit. Corrupt too: an edit deletes a file that isn't at that level, or
+/// adds one whose number is there.
 pub fn fold_edits(alloc: Global, comparator: &[u8], edits: &[Edit]) -> Result<Layout, ReadError>
     ensures found { IfOk result (λ layout. IsLayout comparator.now edits.now layout) }
     // Edits that are refused leave no layout, or are of another order.
     ensures refused { IfErr result (λ e. RefusesFor e ((layout : LayoutValue) → IsLayout comparator.now edits.now layout → ⊥)
         (AreOfOther comparator.now (fields_of edits.now))) }
-    // Where they are of another order, it is for that.
+    // If they are of another order, it is for that.
     ensures other { IfErr result (λ e. RefusesFor e (AreOfOrder comparator.now (fields_of edits.now)) (AreOfOther comparator.now (fields_of edits.now))) }
 {
     if are_of_other(comparator, edits) {
@@ -261,7 +261,7 @@ fn pointer_in_field(field: &Field, level: u32) -> Option<&[u8]>
     }
 }
 
-/// Law: no edits leave two layouts.
+/// Proves that no edits leave two layouts.
 pub fn one_layout()
     ensures { (name : List ℕ) (edits : List (List FieldValue)) (layout other : LayoutValue)
         → IsLayout name edits layout → IsLayout name edits other

@@ -8,8 +8,8 @@ ghost use Rattle.edits.specs.declared.names.FileName.{FileName as FileNameValue}
 
 use std::alloc::{AllocError, Global};
 
-/// What a file is, and its number where its name has one (LevelDB's db/filename.h, `FileType`). Numbers are
-/// from 1 on.
+/// Tells what a file is, and its number if its name has one (LevelDB's db/filename.h, `FileType`).
+/// Numbers are from 1 on.
 #[derive(Clone, Copy, Debug, PartialEq, Eq)]
 pub enum FileName {
     /// `CURRENT`, which names the MANIFEST.
@@ -31,9 +31,9 @@ pub enum FileName {
 // Names have at least this many digits, with zeros in front.
 const DIGITS: usize = 6;
 
-/// What a name says of its file (LevelDB's db/filename.cc, `ParseFileName`), or `None` where it has no known
-/// shape. Numbers are read as they are written: in decimal, from 1 to 2^64 - 1, with six digits, or with
-/// more and no zero in front.
+/// Returns what a name says of its file (LevelDB's db/filename.cc, `ParseFileName`), or `None` if
+/// it has no known shape. Numbers are read as they are written: in decimal, from 1 to 2^64 - 1,
+/// with six digits, or with more and no zero in front.
 pub fn parse_name(name: &[u8]) -> Option<FileName>
     ensures found { IfSome result (λ file. IsFileName file × (name.now ≡ name_of file)) }
     ensures none { IfNone result ((file : FileNameValue) → IsFileName file → name.now ≡ name_of file → ⊥) }
@@ -74,7 +74,7 @@ fn file_of(n: u64, ending: &[u8]) -> Option<FileName>
     }
 }
 
-// How many digits stand in front of the first other byte.
+// How many digits come before the first other byte.
 fn digits_in_front(name: &[u8]) -> usize
     ensures within { result ≤ length name.now }
     ensures digits { AllDigits 10 (take result name.now) }
@@ -88,7 +88,7 @@ fn digits_in_front(name: &[u8]) -> usize
     name.len()
 }
 
-// The number that the digits are, where they are as many as its name has.
+// The number that the digits are, if they are as many as its name has.
 fn number_of(digits: &[u8]) -> Option<u64>
     ensures range { IfSome result (λ n. n < 2 ^ 64) }
     ensures value { MatchOption result ((n : ℕ) → IsNumbered n → digits.now ≡ padded n → ⊥) (λ n. IsNumbered n × (digits.now ≡ padded n)) }
@@ -117,8 +117,8 @@ fn value_of(digits: &[u8]) -> Option<u64>
     Some(value)
 }
 
-/// The name of a file (LevelDB's db/filename.cc, `MakeFileName`, `DescriptorFileName` and the like). It is
-/// refused only where memory runs out.
+/// Returns the name of a file (LevelDB's db/filename.cc, `MakeFileName`, `DescriptorFileName` and
+/// the like). It fails only out of memory.
 pub fn print_name(alloc: Global, file: FileName) -> Result<String, AllocError>
     requires { IsFileName file }
     ensures { IfOk result (λ name. string_bytes name ≡ name_of file) }
@@ -158,7 +158,7 @@ fn push_number(alloc: Global, name: &mut String, n: u64) -> Result<(), AllocErro
     name.push_str(digits.as_str())
 }
 
-/// Law: no two files have one name.
+/// Proves that no two files have one name.
 pub fn one_name()
     ensures { (file other : FileNameValue) → IsFileName file → IsFileName other → name_of file ≡ name_of other → file ≡ other }
 {}

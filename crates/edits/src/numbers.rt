@@ -5,7 +5,7 @@ ghost use Rattle.coding.specs.declared.error.DbError.TheVariants.{NumbersSpent};
 
 use coding::DbError;
 
-/// New files have numbers below this (LevelDB has no such bound).
+/// Limits the numbers of new files: they are below this (LevelDB has no such bound).
 pub const NUMBER_END: u64 = 1 << 62;
 
 /// Draws numbers for new files, each once (LevelDB's db/version_set.h, VersionSet::NewFileNumber).
@@ -18,7 +18,7 @@ pub struct FileNumbers {
 }
 
 impl FileNumbers {
-    /// The number of a new file. NumbersSpent, where it would be 2^62 or more.
+    /// Draws the number of a new file. NumbersSpent: it would be 2^62 or more.
     pub fn draw(&mut self) -> Result<u64, DbError>
         ensures { MatchResult result
             (λ number. (number ≡ self.old.next) × (self.new.next ≡ number + 1) × (number < 2 ^ 62) × (0 < number))

@@ -14,13 +14,14 @@ use crate::version_edit::Edit;
 use coding::{Damage, Feature, ReadError};
 use std::alloc::Global;
 
-/// The edit that a record of a MANIFEST is (LevelDB's doc/impl.md, "Manifest", and its db/version_edit.cc,
-/// `VersionEdit::DecodeFrom`): all of the bytes, fields in any order, a tag once or more often. No bytes
-/// are an edit without fields.
+/// Reads the edit that a record of a MANIFEST is (LevelDB's doc/impl.md, "Manifest", and its
+/// db/version_edit.cc, `VersionEdit::DecodeFrom`). It is all of the bytes, with fields in any
+/// order, a tag once or more often. No bytes are an edit without fields.
 ///
-/// Corrupt: an unknown tag, a field that is cut, a number that is longer than it has to be or too large, a
-/// last sequence of 2^56 or more, a level above 6, a new file numbered 0, a key that is no internal key.
-/// Unsupported: a new or deleted file numbered 2^62 or above in what otherwise is an edit.
+/// Corrupt: a field is cut or has an unknown tag, or a number is longer than it has to be or too
+/// large. Corrupt too: a last sequence number of 2^56 or more, a level above 6, a new file numbered
+/// 0, or a key that is no internal key. Unsupported: a new or deleted file is numbered 2^62 or
+/// above in what otherwise is an edit.
 pub fn decode_edit(alloc: Global, bytes: &[u8]) -> Result<Edit, ReadError>
     // The bytes are the encoding of what is read, and its tables have numbers below 2 ^ 62.
     ensures found { IfOk result (λ edit. IsEdit bytes.now edit × AllByRecursion IsWithinLimit edit) }
@@ -60,7 +61,7 @@ fn field_at(alloc: Global, bytes: &[u8]) -> Result<(Field, &[u8]), ReadError>
     }
 }
 
-// The field of this tag whose content is at the front, and the bytes behind it.
+// The field of this tag whose content is at the front, and the bytes after it.
 fn content_at(alloc: Global, tag: u8, bytes: &[u8]) -> Result<(Field, &[u8]), ReadError>
     ensures found { IfOk result (λ found. Begins IsField (tag ∷ bytes.now) found.0 found.1.now) }
     ensures refused { IfErr result (λ e. RefusesOnly e (BeginsNone IsField (tag ∷ bytes.now))) }

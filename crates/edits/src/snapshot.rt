@@ -1,4 +1,5 @@
-//! The edit with which a new MANIFEST begins (LevelDB's db/version_set.cc, `VersionSet::WriteSnapshot`).
+//! The edit with which a new MANIFEST begins (LevelDB's db/version_set.cc,
+//! `VersionSet::WriteSnapshot`).
 
 ghost use Rattle.std.specs.Prelude.{◌≡◌, ◌<◌, ◌^◌, ◌++◌, ◌∷◌, List, [], ℕ, suc, length, map, All, Option, IfOk, OnOk};
 ghost use Rattle.std.specs.List.{AllByRecursion};
@@ -16,9 +17,10 @@ use crate::version_edit::Edit;
 use coding::Bytes;
 use std::alloc::{AllocError, Global};
 
-/// The edit that alone leaves the tables and compact pointers of a layout, under these numbers
-/// (LevelDB's db/version_set.cc, `VersionSet::WriteSnapshot`). Its fields are in our writer's order, and
-/// the previous log number is among them only where it isn't 0. It is refused only where memory runs out.
+/// Builds the edit that alone leaves the tables and compact pointers of a layout, under these
+/// numbers (LevelDB's db/version_set.cc, `VersionSet::WriteSnapshot`). Its fields are in our
+/// writer's order, and the previous log number is among them only if it isn't 0. It fails only out
+/// of memory.
 pub fn snapshot_edit(
     alloc: Global,
     comparator: &[u8],
@@ -37,7 +39,7 @@ pub fn snapshot_edit(
         → edit ≡ snapshot_fields comparator.now new) }
     ensures folds { IfOk result (λ edit. (new : LayoutValue) → IsRenumbered log_number previous_log_number next_file_number last_sequence layout.now new
         → IsLayout comparator.now (edit ∷ []) new) }
-    // What is read again has no table past the reading limit where the layout has none.
+    // What is read again has no table past the reading limit if the layout has none.
     ensures limit { IfOk result (λ edit. AllByRecursion IsBelowLimit layout.now.tables.items → HasPastLimit edit → ⊥) }
 {
     let mut edit = Edit::new(alloc);
@@ -93,7 +95,7 @@ fn push_tables(alloc: Global, edit: &mut Edit, tables: &[PlacedTable]) -> Result
     Ok(())
 }
 
-// Adds the previous log's number, where there is such a log.
+// Adds the previous log's number, if there is such a log.
 fn push_previous(edit: &mut Edit, number: u64) -> Result<(), AllocError>
     ensures { OnOk result (edit.new ≡ edit.old ++ previous_fields number) }
 {
@@ -103,7 +105,7 @@ fn push_previous(edit: &mut Edit, number: u64) -> Result<(), AllocError>
     edit.push(Field::PreviousLogNumber(number))
 }
 
-/// Law: what edits leave that were read is a layout that `snapshot_edit` takes.
+/// Proves that what edits leave that were read is a layout that `snapshot_edit` takes.
 pub fn layouts_are_kept()
     ensures { (name : List ℕ) (edits : List (List FieldValue)) (layout : LayoutValue)
         → AllByRecursion WasRead edits → IsLayout name edits layout → IsKept layout }

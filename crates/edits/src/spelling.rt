@@ -14,7 +14,7 @@ use coding::{
 use ikey::unpack;
 use std::alloc::{AllocError, Global};
 
-/// The number of at most 64 bits at the front, and the bytes behind it.
+/// Reads the number of at most 64 bits at the front, and returns it with the bytes after it.
 pub fn long_at(bytes: &[u8]) -> Result<(u64, &[u8]), ReadError>
     ensures range { IfOk result (λ found. found.0 < 2 ^ 64) }
     ensures found { IfOk result (λ found. Begins IsLong bytes.now found.0 found.1.now) }
@@ -27,7 +27,7 @@ pub fn long_at(bytes: &[u8]) -> Result<(u64, &[u8]), ReadError>
     Ok((n, rest))
 }
 
-/// The sequence at the front, and the bytes behind it.
+/// Reads the sequence number at the front, and returns it with the bytes after it.
 pub fn sequence_at(bytes: &[u8]) -> Result<(u64, &[u8]), ReadError>
     ensures found { IfOk result (λ found. Begins IsSequence bytes.now found.0 found.1.now) }
     ensures refused { IfErr result (λ e. RefusesOnly e (BeginsNone IsSequence bytes.now)) }
@@ -39,7 +39,7 @@ pub fn sequence_at(bytes: &[u8]) -> Result<(u64, &[u8]), ReadError>
     Ok((n, rest))
 }
 
-/// The level at the front, and the bytes behind it.
+/// Reads the level at the front, and returns it with the bytes after it.
 pub fn level_at(bytes: &[u8]) -> Result<(u32, &[u8]), ReadError>
     ensures found { IfOk result (λ found. Begins IsLevel bytes.now found.0 found.1.now) }
     ensures refused { IfErr result (λ e. RefusesOnly e (BeginsNone IsLevel bytes.now)) }
@@ -54,7 +54,7 @@ pub fn level_at(bytes: &[u8]) -> Result<(u32, &[u8]), ReadError>
     Ok((level, rest))
 }
 
-/// The string at the front, and the bytes behind it.
+/// Reads the string at the front, and returns it with the bytes after it.
 pub fn string_at(alloc: Global, bytes: &[u8]) -> Result<(Bytes, &[u8]), ReadError>
     ensures found { IfOk result (λ found. Begins IsString bytes.now found.0 found.1.now) }
     ensures refused { IfErr result (λ e. RefusesOnly e (BeginsNone IsString bytes.now)) }
@@ -65,7 +65,7 @@ pub fn string_at(alloc: Global, bytes: &[u8]) -> Result<(Bytes, &[u8]), ReadErro
     Ok((Bytes::from_vec(Vec::from_slice(alloc, text)?), rest))
 }
 
-/// The internal key at the front, as a string, and the bytes behind it.
+/// Reads the internal key at the front, as a string, and returns it with the bytes after it.
 pub fn key_at(alloc: Global, bytes: &[u8]) -> Result<(Bytes, &[u8]), ReadError>
     ensures found { IfOk result (λ found. Begins SpellsKey bytes.now found.0 found.1.now) }
     ensures refused { IfErr result (λ e. RefusesOnly e (BeginsNone SpellsKey bytes.now)) }
@@ -79,7 +79,7 @@ pub fn key_at(alloc: Global, bytes: &[u8]) -> Result<(Bytes, &[u8]), ReadError>
     Ok((Bytes::from_vec(Vec::from_slice(alloc, key)?), rest))
 }
 
-/// The number of a table at the front, and the bytes behind it.
+/// Reads the number of a table at the front, and returns it with the bytes after it.
 pub fn table_number_at(bytes: &[u8]) -> Result<(u64, &[u8]), ReadError>
     ensures found { IfOk result (λ found. Begins IsTableNumber bytes.now found.0 found.1.now) }
     ensures refused { IfErr result (λ e. RefusesOnly e (BeginsNone IsTableNumber bytes.now)) }
@@ -91,7 +91,7 @@ pub fn table_number_at(bytes: &[u8]) -> Result<(u64, &[u8]), ReadError>
     Ok((n, rest))
 }
 
-/// The smallest and the largest key at the front, and the bytes behind them.
+/// Reads the smallest and the largest key at the front, and returns them with the bytes after them.
 pub fn keys_at(alloc: Global, bytes: &[u8]) -> Result<(Bytes, Bytes, &[u8]), ReadError>
     ensures found { IfOk result (λ found. Begins (InTurn SpellsKey SpellsKey) bytes.now (found.0, found.1) found.2.now) }
     ensures refused { IfErr result (λ e. RefusesOnly e (BeginsNone (InTurn SpellsKey SpellsKey) bytes.now)) }
@@ -101,7 +101,7 @@ pub fn keys_at(alloc: Global, bytes: &[u8]) -> Result<(Bytes, Bytes, &[u8]), Rea
     Ok((smallest, largest, rest))
 }
 
-/// The table at the front, and the bytes behind it.
+/// Reads the table at the front, and returns it with the bytes after it.
 pub fn table_at(alloc: Global, bytes: &[u8]) -> Result<(TableFile, &[u8]), ReadError>
     ensures found { IfOk result (λ found. Begins SpellsTable bytes.now found.0 found.1.now) }
     ensures refused { IfErr result (λ e. RefusesOnly e (BeginsNone SpellsTable bytes.now)) }
@@ -120,7 +120,7 @@ pub fn table_at(alloc: Global, bytes: &[u8]) -> Result<(TableFile, &[u8]), ReadE
     ))
 }
 
-/// The level and the table at the front, and the bytes behind them.
+/// Reads the level and the table at the front, and returns them with the bytes after them.
 pub fn placed_at(alloc: Global, bytes: &[u8]) -> Result<(PlacedTable, &[u8]), ReadError>
     ensures found { IfOk result (λ found. Begins IsPlaced bytes.now found.0 found.1.now) }
     ensures refused { IfErr result (λ e. RefusesOnly e (BeginsNone IsPlaced bytes.now)) }
@@ -130,14 +130,14 @@ pub fn placed_at(alloc: Global, bytes: &[u8]) -> Result<(PlacedTable, &[u8]), Re
     Ok((PlacedTable { level, table }, rest))
 }
 
-/// Writes a number at the end, or nothing where memory runs out.
+/// Writes a number at the end, or nothing if memory runs out.
 pub fn put_long(out: &mut Vec<u8>, n: u64) -> Result<(), AllocError>
     ensures { OnOk result (Appends IsLong out.old.items out.new.items n) }
 {
     put_varint64(out, n)
 }
 
-/// Writes a level at the end, or nothing where memory runs out.
+/// Writes a level at the end, or nothing if memory runs out.
 pub fn put_level(out: &mut Vec<u8>, level: u32) -> Result<(), AllocError>
     requires { level < 7 }
     ensures { OnOk result (Appends IsLevel out.old.items out.new.items level) }
@@ -145,7 +145,7 @@ pub fn put_level(out: &mut Vec<u8>, level: u32) -> Result<(), AllocError>
     put_varint32(out, level)
 }
 
-/// Writes a table at the end, or a beginning of it where memory runs out.
+/// Writes a table at the end, or a beginning of it if memory runs out.
 pub fn put_table(out: &mut Vec<u8>, table: &TableFile) -> Result<(), AllocError>
     requires { IsTableProper table.now }
     ensures { OnOk result (Appends SpellsTable out.old.items out.new.items table.now) }

@@ -10,13 +10,14 @@ use std::alloc::{AllocError, Global};
 use std::collections::{BTreeMap, BTreeSet};
 use std::marker::Model;
 
-// The tables so far, as the list that a layout has of them: by level and then by number. Whatever the order in which a
-// MANIFEST names them, a table goes in or out in a number of steps that is logarithmic in how many there are.
+// The tables so far, as the list that a layout has of them: by level and then by number. Whatever
+// the order in which a MANIFEST names them, adding or removing a table takes a number of steps that
+// is logarithmic in how many there are.
 #[derive(Drop)]
 pub(crate) struct TableSet {
     // each under its level and its number
     tables: BTreeMap<(u32, u64), PlacedTable>,
-    // theirs, since a number counts at whichever level
+    // the tables' numbers, since a number counts at whichever level
     numbers: BTreeSet<u64>,
 }
 
@@ -45,7 +46,7 @@ impl TableSet {
         }
     }
 
-    // Puts a table in, where none has its number. An `Err` changes nothing.
+    // Puts a table in, if none has its number. An `Err` changes nothing.
     pub(crate) fn add(&mut self, new: PlacedTable) -> Result<(), ReadError>
         ensures done { OnOk result (with_table new self.old ≡ Some self.new) }
         ensures refused { IfErr result (λ e. RefusesOnly e (with_table new self.old ≡ None)) }
@@ -63,7 +64,7 @@ impl TableSet {
         Ok(())
     }
 
-    // Takes the table of this number out, where it is at this level. An `Err` changes nothing.
+    // Takes the table of this number out, if it is at this level. An `Err` changes nothing.
     pub(crate) fn remove(&mut self, level: u32, number: u64) -> Result<(), ReadError>
         ensures done { OnOk result (without level number self.old ≡ Some self.new) }
         ensures refused { IfErr result (λ e. RefusesOnly e (without level number self.old ≡ None)) }
@@ -81,7 +82,7 @@ impl TableSet {
         ensures { IfOk result (λ tables. tables.items ≡ self) }
     {
         let TableSet { tables, numbers } = self;
-        // The list takes memory, which the numbers give back first.
+        // The list takes memory, so the numbers free theirs first.
         drop(numbers);
         tables.into_values().collect(alloc)
     }

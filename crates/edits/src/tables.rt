@@ -11,7 +11,7 @@ use crate::version_edit::Edit;
 use coding::{Bytes, Damage, ReadError};
 use std::alloc::{AllocError, Global};
 
-/// The tables after these edits.
+/// Returns the tables after these edits.
 pub fn tables_after(alloc: Global, edits: &[Edit]) -> Result<Vec<PlacedTable>, ReadError>
     ensures found { IfOk result (λ tables. after_edits edits.now [] ≡ Some tables.items) }
     ensures refused { IfErr result (λ e. RefusesOnly e (after_edits edits.now [] ≡ None)) }
@@ -95,7 +95,7 @@ fn put_one(alloc: Global, tables: &mut TableSet, new: &PlacedTable) -> Result<()
     tables.add(copy_of(alloc, new)?)
 }
 
-/// A table's description like this one, in memory of its own.
+/// Copies a table's description into memory of its own.
 pub fn copy_of(alloc: Global, placed: &PlacedTable) -> Result<PlacedTable, AllocError>
     ensures { IfOk result (λ copy. copy ≡ placed.now) }
 {

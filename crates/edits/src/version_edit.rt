@@ -8,8 +8,8 @@ use crate::field::Field;
 use std::alloc::{AllocError, Global};
 use std::marker::Model;
 
-/// A change of the layout of the files: its fields in order, as the list of which contracts see it. It is
-/// one record of a MANIFEST.
+/// Holds a change of the layout of the files: its fields in order, as the list of which contracts
+/// see it. It is one record of a MANIFEST.
 #[derive(Debug, Drop)]
 pub struct Edit {
     fields: Vec<Field>,
@@ -27,7 +27,7 @@ impl Model for Edit {
 impl Edit {
     ghost use Rattle.std.specs.Prelude.{◌≡◌, [], ◌∷◌, ◌++◌, OnOk, OnErr};
 
-    /// An edit that changes nothing.
+    /// Makes an edit that changes nothing.
     pub fn new(alloc: Global) -> Self
         ensures { result ≡ [] }
     {
@@ -45,14 +45,14 @@ impl Edit {
         Ok(())
     }
 
-    // Gives back the room that no field took: an edit of one table would keep room for four.
+    // Frees the room that no field took: an edit of one table would keep room for four.
     pub(crate) fn shrink(&mut self)
         ensures { self.new ≡ self.old }
     {
         self.fields.shrink_to_fit();
     }
 
-    /// The fields, in order.
+    /// Returns the fields, in order.
     pub fn fields(&self) -> &[Field]
         ensures { result.now ≡ self.now }
     {
@@ -60,7 +60,7 @@ impl Edit {
     }
 }
 
-/// Law: no bytes are two edits.
+/// Proves that no bytes are two edits.
 pub fn one_edit()
     ensures { (bytes : List ℕ) (edit other : List FieldValue) → IsEdit bytes edit → IsEdit bytes other → edit ≡ other }
 {}

@@ -10,8 +10,8 @@ use crate::version_edit::Edit;
 use coding::put_string;
 use std::alloc::{AllocError, Global};
 
-/// The bytes of an edit whose fields are in our writer's order, by tag, then by level, then by number
-/// (LevelDB's db/version_edit.cc, `VersionEdit::EncodeTo`). It is refused only where memory runs out.
+/// Encodes an edit whose fields are in our writer's order, by tag, then by level, then by number
+/// (LevelDB's db/version_edit.cc, `VersionEdit::EncodeTo`). It fails only out of memory.
 pub fn encode_edit(alloc: Global, edit: &Edit) -> Result<Vec<u8>, AllocError>
     requires proper { All IsProper edit.now }
     requires order { IsInOrder edit.now }
@@ -24,7 +24,7 @@ pub fn encode_edit(alloc: Global, edit: &Edit) -> Result<Vec<u8>, AllocError>
     Ok(out)
 }
 
-// Writes a field at the end, or a beginning of it where memory runs out.
+// Writes a field at the end, or a beginning of it if memory runs out.
 fn put_field(out: &mut Vec<u8>, field: &Field) -> Result<(), AllocError>
     requires { IsProper field.now }
     ensures { OnOk result (Appends IsField out.old.items out.new.items field.now) }

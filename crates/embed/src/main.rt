@@ -1,5 +1,6 @@
-//! A program with a database of its own, in the folder that it is given or in the one that it runs in: it opens it, writes, reads a
-//! range now and at a snapshot, lets it work until there is nothing left to do, and closes it. Each error ends the program with its text.
+//! A program with its own database, in the folder that it is given or in the one that it runs in.
+//! It opens the database, writes, reads a range now and at a snapshot, lets it work until nothing
+//! is left to do, and closes it. Each error ends the program with its text.
 #![tactic(auto)]
 
 use anyhow::{Result, anyhow};

@@ -59,7 +59,7 @@ use Rattle.engine.proofs.InUse.{memory_used, read_used, table_used}
 use Rattle.engine.proofs.Pieces.{limits_stay, made_still, walks_each}
 use Rattle.engine.proofs.Reading.{has_placed, read_by}
 
--- a cursor over a memory table that isn't dropped
+-- a cursor over a memtable that isn't dropped
 abbrev pub DropsKept : (List ℕ → List ℕ → Ordering) → Type 0
 DropsKept cmp = (cursor : MemoriesPlace) (old new : Memories) → new ≡ record old { older = new.older } → older_at new.older cursor.generation ≡ older_at old.older cursor.generation → KeepsMemories cmp cursor old new
 
@@ -91,7 +91,7 @@ module _ {K : Type 0} {g : _} (order : Order) (kept : (scan : Scan K g) → Scan
   abbrev after : OpenDb K g
   after = record db { memory = memory }
 
-  -- ---- the memory tables
+  -- ---- the memtables
 
   module _ (used : KeepsUsed (IsUsed (λ generation. IsMemoryUsed db.iterators generation) db.memory) db.memory memory) where
     current_same : memory.current.inserts ≡ db.memory.current.inserts

@@ -1,4 +1,5 @@
--- What steps change of a machine: none whether a table of the first directory may be damaged, and none but an open and a write what was accepted.
+-- What steps change of a machine: none whether a table of the first directory may be damaged, and
+-- none but an open and a write what was accepted.
 use Rattle.std.proofs.Common.{◌≡◌, ◌⊎◌, ℕ, ◌+◌, Bool, true, false, List, [], ◌∷◌, ◌++◌, length, Option, Some, None, MatchOption, Result, Ok, Err, inl, inr, refl, ap, ◌∙◌}
 use Rattle.batch.specs.declared.operation.Operation.{Operation}
 use Rattle.coding.specs.declared.error.DbError.{DbError}

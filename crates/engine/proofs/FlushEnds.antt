@@ -163,7 +163,8 @@ module _ {K : Type 0} {g : _} (order : Order) (kept : (scan : Scan K g) → Scan
   abbrev Carried : Type 0
   Carried = IsTrue facts.faithful → CarriesBut old.facts facts (λ (q : List ℕ). q ≡ name_of (Table next))
 
-  -- a refusal before the edit leaves all that is synced, but for a table that has no number of one that is read
+  -- a refusal before the edit leaves all that is synced, but for a table that has no number of one
+  -- that is read
   unflushed_synced : IsTrue facts.faithful → Carried → (m : Machine) → IsServing order old before m → ((string_bytes state.directory.manifest.name ≡ name_of (Table next) → ⊥) → LeavesFile old.facts facts (string_bytes state.directory.manifest.name))
       → IsSyncedBut facts state.log drawn.directory state.version.value.tables
   unflushed_synced f carries m serving spares = elim draws_number [
@@ -274,7 +275,7 @@ module _ {K : Type 0} {g : _} (order : Order) (kept : (scan : Scan K g) → Scan
         serving_flushed order kept one lasts law flushes old facts before m serving plan numbers.next (stays_below m serving f) (names_below m serving f) (sound_still m serving f) done.free upto.1 end version.value.tables version.value.compact_pointers (with_table end version front).directory entries in_order done refl refl refl refl refl refl upto.0 front (synced f m serving) (logs_left f m serving) (named_still m serving f (carries f)),
       )))
 
-  -- and its file has the entries of the memory table
+  -- and its file has the entries of the memtable
   pub table_put : (end : ℕ) (version : Rc Placement Global) (front : Vec (String Global)) (after : DbState K g) → after ≡ with_table end version front
       → (IsTrue facts.faithful → (d : Directory) (sealed : List LogContent) (current : LogContent) → CanFlush order old.facts.files next plan state.directory.manifest entries before.tables d sealed current
       → IsFlushed order old.facts.files facts.files next numbers.next end entries version.value.tables d sealed current)

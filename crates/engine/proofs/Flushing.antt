@@ -67,7 +67,7 @@ use Rattle.engine.proofs.Pieces.{accounted_same, bounded_same, free_up, made_sti
 use Rattle.engine.proofs.Reading.{below_next}
 use Rattle.opening.proofs.Reopening.{files_apart, long_back}
 
--- a cursor over a memory table reads on where none is sealed any more
+-- a cursor over a memtable reads on where none is sealed any more
 abbrev pub FlushKept : (List ℕ → List ℕ → Ordering) → Type 0
 FlushKept cmp = (cursor : MemoriesPlace) (old new : Memories) → new ≡ record old { sealed = None } → KeepsMemories cmp cursor old new
 

@@ -42,7 +42,7 @@ use Rattle.engine.proofs.InUse.{as_listed}
 use Rattle.engine.proofs.Reading.{GathersRead, read_by, stands_read}
 use Rattle.engine.proofs.Steps.{denies_none, serving_of, got_value, got_refused, tables_value, tables_refused}
 
--- ---- the sequence of a read
+-- ---- the sequence number of a read
 
 abbrev Found : Result ℕ DbError → Result ℕ DbError → Type 0
 Found a b = a ≡ b

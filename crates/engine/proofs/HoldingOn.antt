@@ -1,4 +1,5 @@
--- What files hold goes on where they change in what isn't read, where an empty log is put behind the others, and where an open has replaced `CURRENT`.
+-- What files hold goes on where they change in what isn't read, where an empty log is put behind
+-- the others, and where an open has replaced `CURRENT`.
 use Rattle.std.proofs.Common.{◌≡◌, ◌≢◌, ◌⊎◌, ◌<◌, ◌≤◌, ◌+◌, ◌++◌, ◌∷◌, ℕ, true, List, [], Option, Some, None, cond, is_some, take, inl, inr, refl, sym, ap, subst, ◌∙◌, append_assoc, arith}
 use Rattle.std.specs.Cmp.Lexicographic.{nat_list_cmp_total}
 use Rattle.std.specs.FinMap.{get, insert, remove, contains_key, get-remove}
@@ -44,14 +45,14 @@ use Rattle.engine.specs.Reopening.{StayBelow, StaysOrGoes}
 
 -- ---- the same entries
 
--- no entry of a directory is above the sequences used
+-- no entry of a directory is above the sequence numbers used
 bounded : (order : Order) (files : Files) (entries : List Entry) (used : ℕ) → IsDirectory order files entries used → AllUpTo used entries
 bounded order files entries used (inl none) e i = absurd (subst (λ (es : List Entry). Among es e) none.1 i)
 bounded order files entries used (inr some) e i =
     let d = some.0 in
     directory_bounded order files d.tables (logged d.logs) used (inr (d, some.1, refl, refl, some.3)) e (subst (λ (es : List Entry). Among es e) some.2 i)
 
--- What has the same entries holds the same batches, however many sequences are used.
+-- What has the same entries holds the same batches, however many sequence numbers are used.
 holds_by : (order : Order) (m : Machine) (before after : Files) → ((entries : List Entry) (used : ℕ) → IsDirectory order before entries used → (more : ℕ) × IsDirectory order after entries more)
     → HoldsFirst order before m → HoldsFirst order after m
 holds_by order m before after goes h =

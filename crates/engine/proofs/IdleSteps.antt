@@ -1,4 +1,5 @@
--- Steps of a machine that doesn't serve, since none is open or it is broken: refused for that, or a close. And what is so behind steps of one that serves.
+-- Steps of a machine that doesn't serve, since none is open or it is broken: refused for that, or a
+-- close. And what is so behind steps of one that serves.
 use Rattle.std.proofs.Common.{◌≡◌, ◌⊎◌, ◌+◌, ◌++◌, ◌∷◌, Bool, true, false, List, [], length, Option, Some, None, IsSome, MatchOption, inl, inr, refl, sym, ap, ◌∙◌, if◌then◌else◌}
 use Rattle.std.specs.Option.{option_or}
 use Rattle.batch.specs.Batch.{first_refusal}

@@ -1,4 +1,4 @@
--- Which tables and memory tables the open iterators of a database use.
+-- Which tables and memtables the open iterators of a database use.
 use Rattle.std.proofs.Common.{◌≡◌, ℕ, suc, Bool, true, false, cond, List, [], ◌∷◌, length, Option, Some, None, inl, inr, refl, sym, subst, arith, ◌++◌, All, Any, Bor}
 use Rattle.std.specs.BTreeMap.{BTreeMap}
 use Rattle.std.specs.Map.{lookup, values_of}

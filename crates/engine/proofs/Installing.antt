@@ -167,7 +167,7 @@ module _ {K : Type 0} {g : _} (order : Order) (kept : (scan : Scan K g) → Scan
     apart : AreNewerOrDeep (tabled c.running.inputs) (tabled c.running.rest ++ logged d.logs) (deep_of order.cmp work)
     apart = planned_apart order serving.ideal (deep_of order.cmp work) work.job.plan d c.running.inputs c.running.rest a.consistent c.running.planned
 
-    -- a reader that sees of what came what one of its sequences sees, sees the same
+    -- a reader that sees of what came what one of its sequence numbers sees, sees the same
     seen_same : (p : ℕ) (contents : Contents) → SeesAsOne (map entry_of (c.came ++ c.left)) work.job.selection.snapshots p → IsView (entries_of serving.contents db) p contents → IsView (entries_in installed_as) p contents
     seen_same p contents sees view =
         has.alike apart p contents (sees.0, sees.1, sees.2, λ entry i le. sees.3 entry (came_of entry i) le)
@@ -176,7 +176,7 @@ module _ {K : Type 0} {g : _} (order : Order) (kept : (scan : Scan K g) → Scan
         came_of : (entry : Entry) → Among (tabled c.running.inputs) entry → Among (map entry_of (c.came ++ c.left)) entry
         came_of entry i = (c.running.may.entries entry).1 i
 
-    -- so does one at a sequence above all that the tables had
+    -- so does one at a sequence number above all that the tables had
     pub seen_above_tables : (p : ℕ) (contents : Contents) → AllUpTo p (tabled d.tables) → IsView (entries_in d) p contents → IsView (entries_in installed_as) p contents
     seen_above_tables p contents bounded view =
         parts_seen d.tables c.running.inputs c.running.rest has.outputs has.contents (logged d.logs) c.came work.job.selection.snapshots (deep_of order.cmp work) p c.reach contents

@@ -34,7 +34,8 @@ use Rattle.engine.proofs.Reading.{has_placed, long_table}
 
 -- ---- what a compaction meets
 
--- what a table of the directory passes a limit with is in the first directory, or its file may be damaged
+-- what a table of the directory passes a limit with is in the first directory, or its file may be
+-- damaged
 pub limited_in : {K : Type 0} {g : _} (order : Order) (old : Seen) (db : OpenDb K g) (m : Machine) (serving : IsServing order old db m) (content : TableContent) → InTables serving.log.directory.directory.tables content
     → (placed : PlacedTable) → content.placed ≡ placed → (file : List ℕ) → table_at old.facts.files placed.table.number ≡ Some file → IsTablePastLimit order.cmp file → IsHardToRead m
 limited_in order old db m serving content i placed is file there past = at m.over_limit refl m.damaged refl

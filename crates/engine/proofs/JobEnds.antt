@@ -154,7 +154,8 @@ unended_outcome {K} {T} {g} order old mid new state memory after_memory numbers 
     at (Before _) h = absurd h
     at Edit h = failed h
 
--- where the memory tables are left, and the log and the tables, all that is answered from is the same
+-- where the memtables are left, and the log and the tables, all that is answered from is the
+-- same
 pub same_left : {K : Type 0} {g : _} (state : DbState K g) (memory after_memory : Memories) (job : Option (OpenJob K g)) → LeavesMemories memory after_memory → IsSame (open_db memory state) (open_db after_memory (record state { job = job }))
 same_left state memory after_memory job left = record { entries = left_logged memory after_memory left; sequence = left.last; tables = refl; log = refl; snapshots = λ q. refl; iterators = λ q. refl }
 

@@ -92,7 +92,8 @@ module _ {K : Type 0} {g : _} (order : Order) (source : Seen) (db : OpenDb K g) 
 
 -- ---- what the inputs may have
 
--- the contents of the inputs of a plan, as they are searched, are those of the tables of the directory
+-- the contents of the inputs of a plan, as they are searched, are those of the tables of the
+-- directory
 pub plan_parted : (order : Order) (ideal : Files) (d : Directory) (tables : List PlacedTable) (plan : JobPlan) → IsTotalOrder order.cmp → IsAntisymmetric order.cmp → IsConsistent order ideal d → ListsSameTables (placed_in d.tables) tables
     → AreInOrder order.cmp tables → IsPlanOf order.cmp tables plan
     → (inputs : List TableContent) × (rest : List TableContent) × (found : List TableContent) × IsPlanned order (is_covered_below order.cmp plan.output_level tables) plan d.tables inputs rest

@@ -1,4 +1,5 @@
--- What syncs of the logs that an open found leave of the database, and a loss of power behind them: what it left in front of them.
+-- What syncs of the logs that an open found leave of the database, and a loss of power behind them:
+-- what it left in front of them.
 use Rattle.std.proofs.Common.{◌≡◌, ◌≢◌, ◌<◌, ◌≤◌, ◌++◌, ◌∷◌, [], ℕ, Bool, true, false, List, Option, None, Some, Result, Ok, Err, MatchBool, OnOk, IsTrue, is_err, inl, inr, map, refl, sym, ap, subst, ◌∙◌, arith, append-nil, append_assoc, string_bytes}
 use Rattle.std.specs.FinMap.{contains_key, get}
 use Rattle.std.specs.List.{AllByRecursion}

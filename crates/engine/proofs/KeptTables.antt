@@ -1,4 +1,5 @@
--- What losses tell of tables: one that is read, and that wasn't there in front of all of them, is synced whole, as a loss would cut it else.
+-- What losses tell of tables: one that is read, and that wasn't there in front of all of them, is
+-- synced whole, as a loss would cut it else.
 use Rattle.std.proofs.Common.{◌≡◌, ◌≢◌, ◌⊎◌, ◌<◌, ◌≤◌, ◌+◌, ◌++◌, ◌∷◌, ℕ, List, [], Contains, length, Option, Some, None, is_some, inl, inr, refl, sym, ap, subst, ◌∙◌, append-nil, arith}
 use Rattle.std.proofs.lemmas.Bool.{cases_eq, cases_lt}
 use Rattle.std.proofs.lemmas.List.{length-append}
@@ -142,7 +143,8 @@ spares_other since now bound file lost stays apart others n num below =
 
 -- ---- a table that was cut
 
--- What holds the first of the batches, and has the same MANIFEST, has each of its tables with its size.
+-- What holds the first of the batches, and has the same MANIFEST, has each of its tables with its
+-- size.
 sized : (order : Order) (now : Files) (d : Directory) (m : Machine) (lost : Files) → IsConsistent order now d → HoldsFirst order lost m → get lost (name_of Current) ≡ get now (name_of Current) → get lost (name_of (Manifest d.manifest)) ≡ get now (name_of (Manifest d.manifest))
     → (content : TableContent) → InTables d.tables content → (bytes : List ℕ) × (table_at lost content.placed.table.number ≡ Some bytes) × (length bytes ≡ content.placed.table.size)
 sized order now d m lost good h current manifest content among = elim h.holds.directory [
@@ -260,7 +262,8 @@ there_or_not : (o : Option (List ℕ)) → (o ≡ None) ⊎ (o ≡ None → ⊥)
 there_or_not None = inl refl
 there_or_not (Some bytes) = inr (λ none. absurd (cc))
 
--- Of the files below its MANIFEST's number each is spared: of those that the directory reads a table was spared before, or is synced whole, and so are its logs.
+-- Of the files below its MANIFEST's number each is spared: of those that the directory reads a
+-- table was spared before, or is synced whole, and so are its logs.
 module _ (order : Order) (since now : Facts) (bound : ℕ) (m : Machine) (d : Directory) (sound : SyncsBeginnings now) (stays : StaysFound since now bound) (here : LosesOnly now now (LeavesFirst order since bound m)) (good : IsConsistent order now.files d)
     (logs : (n : ℕ) → IsNumbered n → n < d.manifest → IsLive d.layout n → IsKept now (name_of (Log n))) (lost : Files) (spares : SparesBelow since bound lost) (unread : SparesUnread order now lost) (n : ℕ) (num : IsNumbered n) (below : n < d.manifest) where
   -- a file of this number isn't read

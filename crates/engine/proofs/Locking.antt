@@ -1,4 +1,5 @@
--- What an open does to the lock, and what of its writing is synced, from the call that takes the lock on.
+-- What an open does to the lock, and what of its writing is synced, from the call that takes the
+-- lock on.
 use Rattle.std.proofs.Common.{Bool, true, false, cond, List, ℕ, [], IsSome, is_some, ◌≡◌, ◌≢◌, ◌⊎◌, ◌<◌, ◌≤◌, ◌+◌, ap, sym, ◌∙◌, Result, Ok, Err, IsTrue, OnOk, OnErr, inl, inr, refl, arith}
 use Rattle.std.specs.FinMap.{get, contains_key, insert}
 use Rattle.coding.specs.declared.error.DbError.{DbError}

@@ -1,4 +1,5 @@
--- What a loss of power leaves in the middle of a write: the first of the accepted batches, with that of the write or without it.
+-- What a loss of power leaves in the middle of a write: the first of the accepted batches, with
+-- that of the write or without it.
 use Rattle.std.proofs.Common.{◌≡◌, ◌≢◌, ◌⊎◌, ◌<◌, ◌+◌, ◌++◌, ◌∷◌, ℕ, false, List, [], length, map, take, Option, Some, None, Ok, inl, inr, refl, sym, ap, subst, ◌∙◌, arith, append-nil, append_assoc, string_bytes}
 use Rattle.std.specs.FinMap.{get}
 use Rattle.std.specs.List.{AllByRecursion}
@@ -75,7 +76,8 @@ module _ {K : Type 0} {g : _} (order : Order) (db : OpenDb K g) (names : HaveNam
 
   -- ---- up to a later moment
 
-  -- From old on each loss leaves the first of the machine's batches; the directory is there again, and what was synced whole still is.
+  -- From old on each loss leaves the first of the machine's batches; the directory is there again,
+  -- and what was synced whole still is.
   pub record Reaches (old then : Facts) (d : Directory) (m : Machine) : Type 0 where
     pub here : CanLoseHere then d m
     pub keeps : (q : List ℕ) → IsKept old q → IsKept then q
@@ -259,7 +261,8 @@ module _ {K : Type 0} {g : _} (order : Order) (db : OpenDb K g) (names : HaveNam
 
     -- ---- the batch is there, or it isn't
 
-    -- With these batches at its end the directory is that of a machine whose first batches are of those that are accepted by then.
+    -- With these batches at its end the directory is that of a machine whose first batches are of
+    -- those that are accepted by then.
     pub record Appended (m : Machine) (operations : List Operation) : Type 0 where
       pub d : Directory
       pub n : Machine

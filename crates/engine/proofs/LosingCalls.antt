@@ -1,4 +1,5 @@
--- What a loss of power leaves of an open database while calls write files that it doesn't read, and while an edit is put behind its MANIFEST.
+-- What a loss of power leaves of an open database while calls write files that it doesn't read, and
+-- while an edit is put behind its MANIFEST.
 use Rattle.std.proofs.Common.{◌≡◌, ◌<◌, ◌++◌, ℕ, List, None, inl, inr, refl, sym, ap, subst, ◌∙◌, arith}
 use Rattle.std.proofs.lemmas.List.{append_cancel_left}
 use Rattle.std.specs.FinMap.{get}
@@ -174,7 +175,8 @@ found_written old new db mine writes current lock each =
 
 -- ---- an edit
 
--- one of these directories stands for the first batches, whatever of the edit is behind the MANIFEST
+-- one of these directories stands for the first batches, whatever of the edit is behind the
+-- MANIFEST
 pub put_first : {K : Type 0} {g : _} (order : Order) (old mid new : Facts) (more : List Call) (db : OpenDb K g) (tables : List PlacedTable) (m : Machine) (name bytes : List ℕ) (P : Files → Type 0) (Q : Directory → Type 0)
     → mid.calls ≡ old.calls ++ more → PutsSynced mid new name bytes → LeavesOnly old new P
     → ((files : Files) → P files → (x : Directory) × Q x × IsConsistent order files x) → ((x : Directory) → Q x → name ≡ name_of (Manifest x.manifest))

@@ -1,4 +1,5 @@
--- What a loss of power leaves in the middle of the calls of a database, and of the commands of a session.
+-- What a loss of power leaves in the middle of the calls of a database, and of the commands of a
+-- session.
 use Rattle.std.proofs.Common.{◌≡◌, ◌≤◌, ℕ, Bool, true, false, List, [], ◌∷◌, length, Option, Some, None, IsTrue, refl, sym, ap, subst, ◌∙◌, arith}
 use Rattle.batch.specs.declared.operation.Operation.{Operation}
 use Rattle.ikey.specs.Orders.{Order}

@@ -1,4 +1,5 @@
--- From what a loss of power leaves of a directory, at some moment of a call, to the first of the accepted batches.
+-- From what a loss of power leaves of a directory, at some moment of a call, to the first of the
+-- accepted batches.
 use Rattle.std.proofs.Common.{◌≡◌, ◌⊎◌, ◌+◌, ◌≤◌, ◌<◌, ◌++◌, ◌∷◌, ℕ, List, [], length, take, Option, Some, None, is_some, true, false, inl, inr, refl, sym, subst, ◌∙◌, arith}
 use Rattle.std.proofs.lemmas.Bool.{cases_lt}
 use Rattle.std.proofs.lemmas.List.{length-append, take-append-le}
@@ -34,8 +35,9 @@ use Rattle.engine.specs.internal.Synced.{HaveStayed}
 
 -- ---- what a directory stands for at that moment
 
--- Its logs are there, though the files of which it is the directory may be others: those with an edit that was cut, say. All else that it reads is synced whole,
--- but for tables that the open found, and its logs have the last of these batches.
+-- Its logs are there, though the files of which it is the directory may be others: those with an
+-- edit that was cut, say. All else that it reads is synced whole, but for tables that the open
+-- found, and its logs have the last of these batches.
 pub record CanLose {K : Type 0} {g : _} (order : Order) (then : Facts) (db : OpenDb K g) (d : Directory) (m : Machine) : Type 0 where
   pub files : Files
   pub consistent : IsConsistent order files d
@@ -167,7 +169,8 @@ module _ {K : Type 0} {g : _} (old : Facts) (db : OpenDb K g) (tables : List Pla
 
 -- ---- machines
 
--- the first batches are those of any machine that has accepted no others, of which no more are synced
+-- the first batches are those of any machine that has accepted no others, of which no more are
+-- synced
 pub first_as : (order : Order) (lost : Files) (m n : Machine) → n.base ≡ m.base → n.batches ≡ m.batches → m.synced ≤ n.synced → HoldsFirst order lost n → HoldsFirst order lost m
 first_as order lost m n base batches synced h = record {
   count = h.count;

@@ -1,4 +1,5 @@
--- What a loss of power leaves in the middle of a piece of work, and what stays of the files that the open found.
+-- What a loss of power leaves in the middle of a piece of work, and what stays of the files that
+-- the open found.
 use Rattle.std.proofs.Common.{◌≡◌, ◌⊎◌, ◌<◌, ◌≤◌, ℕ, Bool, true, false, List, None, MatchBool, inl, inr, refl, sym, ap, subst, ◌∙◌}
 use Rattle.std.specs.FinMap.{get}
 use Rattle.directory_writes.specs.Removal.{IsDead, IsLiveAmong}

@@ -178,7 +178,8 @@ same_behind : (f g : List ℕ → Held) (o : Option (List ℕ)) (found : Held) �
 same_behind f g None found same = refl
 same_behind f g (Some q) found same = same q
 
--- of the calls in front it is the same, where each file that is there behind them holds last what it holds there
+-- of the calls in front it is the same, where each file that is there behind them holds last what
+-- it holds there
 held_front : (front after : List Call) (now then : Disk) → ((q : List ℕ) → held_last after now q ≡ (get then.files q, then.synced q)) → (q : List ℕ) → held_last (front ++ after) now q ≡ held_last front then q
 held_front [] after now then same q = same q
 held_front (call ∷ front) after now then same q =

@@ -1,4 +1,5 @@
--- What a loss of power leaves of files that nothing reads, while they are written or taken away: what it left at the beginning.
+-- What a loss of power leaves of files that nothing reads, while they are written or taken away:
+-- what it left at the beginning.
 use Rattle.std.proofs.Common.{◌≡◌, ◌≢◌, ◌⊎◌, inl, inr, ℕ, false, List, [], ◌∷◌, ◌++◌, Some, None, is_some, refl, sym, ap, subst, ◌∙◌}
 use Rattle.std.specs.FinMap.{get, contains_key}
 use Rattle.std.specs.List.{AllByRecursion}
@@ -22,7 +23,8 @@ abbrev pub IsAmong : List ℕ → List (List ℕ) → Type 0
 IsAmong name [] = ⊥
 IsAmong name (other ∷ names) = (name ≡ other) ⊎ IsAmong name names
 
--- What a loss has left in the middle of it, but for files that nothing reads, which are as they were, is what a loss left at the beginning.
+-- What a loss has left in the middle of it, but for files that nothing reads, which are as they
+-- were, is what a loss left at the beginning.
 pub record IsTaken (then : Facts) (log : List ℕ) (dead : List ℕ → Type 0) (reads : List (List ℕ)) (lost : Files) : Type 0 where
   pub before : Files
   pub left : Lost then (moment then) before

@@ -1,4 +1,5 @@
--- That a compaction of all leaves what is needed: behind its first pieces, without tables, and beside the machine's map.
+-- That a compaction of all leaves what is needed: behind its first pieces, without tables, and
+-- beside the machine's map.
 use Rattle.std.proofs.Common.{◌≡◌, ◌++◌, ℕ, Bool, true, false, List, [], ◌∷◌, Option, Some, None, IsSome, MatchOption, Result, Ok, Err, MatchBool, OnOk, cond, inl, inr, refl, sym, ap, subst, ◌∙◌, arith, append-nil}
 use Rattle.std.proofs.lemmas.Bool.{eq-eqb}
 use Rattle.std.specs.BTreeMap.{BTreeMap}

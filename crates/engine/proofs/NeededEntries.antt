@@ -1,4 +1,5 @@
--- What the end of a compaction of all leaves: the entries of the tables are those that must be kept.
+-- What the end of a compaction of all leaves: the entries of the tables are those that must be
+-- kept.
 use Rattle.std.proofs.Common.{◌≡◌, ◌&&◌, ◌<◌, ℕ, Bool, true, false, nat_lt, List, [], ◌∷◌, ◌++◌, map, All, Contains, Option, Some, None, MatchOption, IsTrue, slice_index_or, inl, inr, sym, ap, subst, ◌∙◌, arith}
 use Rattle.std.proofs.lemmas.Bool.{le-ltb}
 use Rattle.std.proofs.lemmas.List.Folds.{list_any_none}
@@ -41,7 +42,8 @@ use Rattle.engine.proofs.Reading.{has_placed}
 
 -- ---- entries that are needed
 
--- those that are needed, and no deeper table covers them, are so where more is read, in whatever order they stand
+-- those that are needed, and no deeper table covers them, are so where more is read, in whatever
+-- order they stand
 module _ (entries others : List Entry) (fewer more : List ℕ) (to : (entry : Entry) → Among others entry → Among entries entry) (back : (entry : Entry) → Among entries entry → Among others entry)
     (within : (sequence : ℕ) → Contains fewer sequence → Contains more sequence) where
   visible_too : (entry : Entry) → IsSeenBySome entries fewer entry → IsSeenBySome others more entry
@@ -125,7 +127,8 @@ module _ {K : Type 0} {g : _} where
     sequences = λ s i. subst (λ (ss : List ℕ). Contains ss s) (sym sequences) (h.sequences s (subst (λ (ss : List ℕ). Contains ss s) snapshots i));
   }
 
-  -- one that is for the sequences that are read at is so where it is for the same, and the same are read at
+  -- one that is for the sequence numbers that are read at is so where it is for the same, and the
+  -- same are read at
   pub still_live : (work more : OpenJob K g) (before after : OpenDb K g) → more.job.selection.snapshots ≡ work.job.selection.snapshots → live_sequences after ≡ live_sequences before → IsForLive work before → IsForLive more after
   still_live work more before after kept same h = record {
     each = λ s i. subst (λ (ss : List ℕ). Contains ss s) (sym kept) (h.each s (subst (λ (ss : List ℕ). Contains ss s) same i));

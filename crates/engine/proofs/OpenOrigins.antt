@@ -55,8 +55,8 @@ same_number e = cc
 
 -- ---- a table that was read by its newer name isn't read by its older one behind an open
 
--- No open leaves a table that is read by its newer name without that file: with other bytes under its older name, the directory would still
--- be there before, but not behind it.
+-- No open leaves a table that is read by its newer name without that file: with other bytes under
+-- its older name, the directory would still be there before, but not behind it.
 module _ (order : Order) (old new ideal : Files) (differs : DiffersInTables old ideal) (continued : OfEach (λ whole behind. IsContinued order whole behind) old new) (d : Directory) (good : IsConsistent order ideal d)
     (content : TableContent) (is : InTables d.tables content) where
   abbrev n : ℕ
@@ -181,7 +181,8 @@ same_back old new ideal after change whole =
     let other : IsSameChange old new old after = subst (λ (fs : Files). IsSameChange old new fs after) whole change in
     (one_change old new).2 old after new other (one_change old new).1
 
--- The same change to both: where each table that the directory then says comes from one of the other, the files come from it.
+-- The same change to both: where each table that the directory then says comes from one of the
+-- other, the files come from it.
 pub comes_behind : (order : Order) (b : Bool) (old new ideal after : Files) (tables : List TableContent) (entries : List Entry) (used : ℕ) → ComesFrom order b old ideal → IsSameChange old new ideal after
     → IsDirectoryOf order after tables entries used → ((e : Directory) → IsConsistent order after e → tables ≡ e.tables → (placed : PlacedTable) → Contains (placed_in tables) placed → HasOrigin order.cmp new after placed)
     → ComesFrom order b new after

@@ -70,7 +70,7 @@ module _ (order : Order) (facts : Facts) (after : Files) (log position least : �
       let number = logs.number in
       before n there.0 (λ same. omega (arith, less, number, same)) there.1
 
-  -- what is in front of the new log has sequences that were used
+  -- what is in front of the new log has sequence numbers that were used
   front_used : AllUpTo m.used (tabled tables ++ logged logs.sealed)
   front_used e i = subst (λ (n : ℕ). e.sequence ≤ n) (sym used) (bounded e (elim (among_split (tabled tables) (logged logs.sealed) e i) [
     | inl table ↦ among_front (tabled tables) (logged_in memory) e table

@@ -45,7 +45,8 @@ StaysUnder old new number = (get new (name_of (Table number)) ≡ get old (name_
 abbrev pub IsAlike : Files → Files → ℕ → Type 0
 IsAlike new after number = (file : List ℕ) × (get new (name_of (Table number)) ≡ Some file) × (get after (name_of (Table number)) ≡ get new (name_of (Table number)))
 
--- The same change to both: where each table of what is left was there and stays, or has the same file in both, the files come from that.
+-- The same change to both: where each table of what is left was there and stays, or has the same
+-- file in both, the files come from that.
 pub comes_on : (order : Order) (one : OneDirectoryLaw) (b : Bool) (old new ideal after : Files) (d e : Directory) → ComesFrom order b old ideal → IsSameChange old new ideal after
     → IsConsistent order ideal d → IsConsistent order after e
     → ((placed : PlacedTable) → Contains e.layout.tables.items placed → (Contains d.layout.tables.items placed × StaysUnder old new placed.table.number) ⊎ IsAlike new after placed.table.number)

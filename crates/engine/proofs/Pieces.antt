@@ -1,4 +1,5 @@
--- What stands when a piece of work has changed the files, the memory tables and what is kept of tables.
+-- What stands when a piece of work has changed the files, the memtables and what is kept of
+-- tables.
 use Rattle.std.proofs.Common.{◌≡◌, ◌⊎◌, ℕ, ◌+◌, ◌≤◌, true, List, [], ◌∷◌, length, Option, Some, None, is_some, MatchOption, inl, inr, refl, sym, ap, subst, ◌∙◌, arith, sum_by}
 use Rattle.std.specs.List.{AllByRecursion}
 use Rattle.std.specs.BTreeMap.{BTreeMap}
@@ -131,7 +132,8 @@ snapshots_same law xs ys last m snapshots same h =
 
 -- ---- a database that is broken
 
--- a directory of which the machine's map is the view is what the machine stands for, as it stands for that of an open database
+-- a directory of which the machine's map is the view is what the machine stands for, as it stands
+-- for that of an open database
 pub rests_seen : {K : Type 0} {g : _} (order : Order) (source : Seen) (db : OpenDb K g) (m : Machine) (serving : IsServing order source db m) (files : Files) (e : Directory)
     → IsConsistent order files e → IsView (entries_in e) db.memory.last (current m) → AreAccounted (entries_in e) (entry_count m) (weight m) → used_in e ≡ db.memory.last → MeansAccepted order files m
 rests_seen order source db m serving files e good view accounted used =

@@ -1,4 +1,5 @@
--- What the directory of an open database says of its tables, and what calls that only read leave of an open database.
+-- What the directory of an open database says of its tables, and what calls that only read leave of
+-- an open database.
 use Rattle.std.proofs.Common.{◌≡◌, ◌⊎◌, ◌<◌, ◌++◌, inl, inr, ℕ, zero, suc, ◌≤◌, Bool, true, false, is_some, IsTrue, IsSome, Option, None, Some, List, [], ◌∷◌, map, MatchBool, MatchOption, refl, sym, ap, subst, ◌∙◌, arith, Contains}
 use Rattle.std.specs.FinMap.{get, IsAntisymmetric}
 use Rattle.std.specs.Option.{option_or}

@@ -70,7 +70,7 @@ logged_more used first (b ∷ batches) (o ∷ operations) more is h =
     let sum : sum_by length (o ∷ operations) ≡ length o + sum_by length operations = sum_by-cons length o operations in
     (h.0, h.1, logged_more (used + length o) first batches operations more (let n : first ≡ (used + length o) + sum_by length operations + 1 = omega (arith, is, sum) in n) h.2)
 
--- ---- sequences
+-- ---- sequence numbers
 
 entries_below : (operations : List Operation) (first : ℕ) (e : Entry) → Among (entries_of first operations) e → e.sequence < first + length operations
 entries_below [] first e h = absurd h
@@ -116,7 +116,7 @@ earlier_entries front more sequence map later view = record {
   missing = λ key unseen. view.missing key (λ e among same. elim (among_split front more e among) [ inl there ↦ unseen e there same | inr new ↦ later e new ]);
 }
 
--- where all is seen at one sequence, and at another
+-- where all is seen at one sequence number, and at another
 pub all_seen : (entries : List Entry) (sequence other : ℕ) (map : Contents) → AllUpTo sequence entries → AllUpTo other entries → IsView entries sequence map → IsView entries other map
 all_seen entries sequence other map first second view = record {
   found = λ e newest. view.found e (record {

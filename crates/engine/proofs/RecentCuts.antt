@@ -1,4 +1,5 @@
--- What a loss of power leaves of the batches in logs: all of those in logs that are synced whole, and the first of the others.
+-- What a loss of power leaves of the batches in logs: all of those in logs that are synced whole,
+-- and the first of the others.
 use Rattle.std.proofs.Common.{◌≡◌, ◌⊎◌, inl, inr, ℕ, ◌+◌, ◌<◌, List, [], ◌∷◌, ◌++◌, length, length-append, Some, None, true, is_some, refl, sym, ap, subst, ◌∙◌, arith, append_assoc, append-nil}
 use Rattle.std.proofs.lemmas.List.{nil_from_length}
 use Rattle.std.specs.FinMap.{get, contains_key}

@@ -18,9 +18,9 @@ use Rattle.recover.specs.Tables.{TableContent, tabled}
 use Rattle.store.specs.Files.{Facts}
 use Rattle.engine.specs.internal.Recent.{AreRecent}
 
--- ---- views at a sequence that sees all that was compacted
+-- ---- views at a sequence number that sees all that was compacted
 
--- The entries up to a sequence.
+-- The entries up to a sequence number.
 record UpTo (sequence : ℕ) (entries : List Entry) : Type 0 where
   part : List Entry
   seen : AllUpTo sequence part
@@ -83,7 +83,8 @@ module _ (xs others : List Entry) (low high : ℕ) (contents : Contents) (order 
     missing = λ key unseen. view.missing key (λ e i is. absurd (let past : low < e.sequence = unseen e (out_of_part e i) is in let below : e.sequence ≤ low = part_upto e i in omega (arith, past, below)));
   }
 
--- A reader at a sequence that is above all that is compacted sees the same, whether or not the sequence is one for which it was begun: one of these is above all of it, too.
+-- A reader at a sequence number that is above all that is compacted sees the same, whether or not
+-- the sequence number is one for which it was begun: one of these is above all of it, too.
 pub seen_above : (entries needed others : List Entry) (sequences : List ℕ) (deep : List ℕ → Bool) (p reach : ℕ) (contents : Contents) → AreNeeded entries sequences deep needed → AreNewerOrDeep entries others deep
     → Contains sequences reach → AllUpTo reach entries → AllUpTo p entries → IsView (entries ++ others) p contents → IsView (needed ++ others) p contents
 seen_above entries needed others sequences deep p reach contents are apart kept above bounded view =

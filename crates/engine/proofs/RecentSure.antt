@@ -103,7 +103,8 @@ front_synced facts [] last count some h = absurd (omega (arith, some))
 front_synced facts (first ∷ between) last count some (inl none) = omega (arith, none)
 front_synced facts (first ∷ between) last count some (inr s) = (let sum = length_in first between in let within : count ≤ length first.batches = s.6 in omega (arith, sum, within))
 
--- Those in front of the last are synced whole, and of the last one nothing less is synced than was; it has no batch less.
+-- Those in front of the last are synced whole, and of the last one nothing less is synced than was;
+-- it has no batch less.
 sure_written : (old new : Facts) (from : ℕ) (kept doubted since : List LogContent) (last more : LogContent) (count : ℕ) → kept ++ doubted ≡ since ++ last ∷ [] → 0 < length doubted → more.number ≡ last.number
     → length last.batches ≤ length more.batches → new.synced (name_of (Log last.number)) ≡ old.synced (name_of (Log last.number)) → AreSure old from kept doubted count → AreSure new from since (more ∷ []) count
 sure_written old new from kept doubted since last more count parts some number longer same h = elim (first_or_last kept doubted since last parts some) [

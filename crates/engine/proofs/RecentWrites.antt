@@ -1,4 +1,5 @@
--- What the logs that were begun have behind an open, a write, a new log, and calls that leave them alone.
+-- What the logs that were begun have behind an open, a write, a new log, and calls that leave them
+-- alone.
 use Rattle.std.proofs.Common.{◌≡◌, inl, inr, ℕ, ◌+◌, ◌-◌, ◌<◌, ◌≤◌, Bool, false, if◌then◌else◌, List, [], ◌∷◌, ◌++◌, length, length-append, take, drop, sum_by, refl, sym, ap, subst, ◌∙◌, arith, append_assoc, append-nil}
 use Rattle.std.proofs.lemmas.Bool.{cases_lt}
 use Rattle.std.proofs.lemmas.List.{drop-append-le, drop_all, length-drop, take-append-le, take_all}
@@ -39,7 +40,8 @@ all_pushed : {X : Type 0} (P : X → Type 0) (xs : List X) (x : X) → AllByRecu
 all_pushed P [] x h p = (p, tt)
 all_pushed P (y ∷ xs) x h p = (h.0, all_pushed P xs x h.1 p)
 
--- The last of the logs is one of the others, where there are any: those that were found lie in front of it.
+-- The last of the logs is one of the others, where there are any: those that were found lie in
+-- front of it.
 pub record BehindFound (front found others : List LogContent) (last : LogContent) : Type 0 where
   pub since : List LogContent
   pub in_front : front ≡ found ++ since

@@ -1,4 +1,5 @@
--- What a loss of power leaves in the middle of an open, call by call, while it renews the directory: what it left in front of the open.
+-- What a loss of power leaves in the middle of an open, call by call, while it renews the
+-- directory: what it left in front of the open.
 use Rattle.std.proofs.Common.{◌≡◌, ◌≢◌, ◌<◌, ◌≤◌, ◌+◌, ◌++◌, ◌∷◌, ℕ, false, true, List, [], Option, Some, None, is_some, string_bytes, inl, inr, refl, sym, ap, subst, ◌∙◌, arith, append_assoc}
 use Rattle.std.specs.FinMap.{contains_key, get, remove}
 use Rattle.directory_writes.proofs.StoreCalls.{behind_added}
@@ -40,7 +41,8 @@ whole_now facts lost q bytes h there kept = same_at facts lost q h (kept_by fact
 
 -- ---- some calls, from one moment to another
 
--- They go on, and a loss at each moment of them leaves this; and what was there before is as it was, or gone.
+-- They go on, and a loss at each moment of them leaves this; and what was there before is as it
+-- was, or gone.
 pub record Goes (since : Facts) (bound : ℕ) (P : Files → Type 0) (old new : Facts) : Type 0 where
   pub more : List Call
   pub calls : new.calls ≡ old.calls ++ more
@@ -239,7 +241,8 @@ module _ (order : Order) (since : Facts) (bound : ℕ) (m : Machine) (old : Fact
         let q = files_apart file (Manifest k) is numbered apart in
         (wrote.only.leaves.now (name_of file) q, wrote.only.synced (name_of file) q)
 
-    -- The file of the MANIFEST that `CURRENT` names in front of that, or `CURRENT`, where there is none.
+    -- The file of the MANIFEST that `CURRENT` names in front of that, or `CURRENT`, where there is
+    -- none.
     record IsRead : Type 0 where
       file : FileName
       numbered_file : IsFileName file

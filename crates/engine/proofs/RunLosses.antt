@@ -1,4 +1,5 @@
--- What a loss of power leaves at any moment of a run: of what is so between two commands, and of the next command, what is so behind that.
+-- What a loss of power leaves at any moment of a run: of what is so between two commands, and of
+-- the next command, what is so behind that.
 use Rattle.std.proofs.Common.{◌≡◌, ◌⊎◌, ◌<◌, ◌≤◌, ◌++◌, ◌∷◌, ℕ, Bool, true, false, List, [], Option, Some, None, IsSome, MatchBool, inl, inr, refl, sym, ap, subst, ◌∙◌, append-nil, arith}
 use Rattle.std.proofs.lemmas.Bool.{cases_lt}
 use Rattle.std.specs.FinMap.{get}
@@ -104,8 +105,9 @@ ended_first order m n op a opens whole certain step idle lost = at op step (step
 abbrev pub ServesFrom : {K : Type 0} {g : _} → Option (OpenDb K g) → ℕ → Type 0
 ServesFrom {K} {g} o bound = (db : OpenDb K g) × (o ≡ Some db) × (db.broken ≡ false) × (db.directory.manifest.number ≡ bound)
 
--- Each loss until the next call leaves the first of the batches, if it spares what is to be spared: all below a number that was there at some moment. The number is that
--- of the MANIFEST of one that serves.
+-- Each loss until the next call leaves the first of the batches, if it spares what is to be spared:
+-- all below a number that was there at some moment. The number is that of the MANIFEST of one that
+-- serves.
 pub record Between {K : Type 0} {g : _} (order : Order) (now : Facts) (o : Option (OpenDb K g)) (m : Machine) (spares : Files → Type 0) : Type 0 where
   pub since : Facts
   pub bound : ℕ

@@ -1,4 +1,4 @@
--- What the sealing of the memory table and a new log leave of an open database.
+-- What the sealing of the memtable and a new log leave of an open database.
 use Rattle.std.proofs.Common.{true, ◌≡◌, ◌≢◌, ◌⊎◌, ℕ, ◌+◌, ◌≤◌, ◌<◌, ◌^◌, List, [], ◌∷◌, ◌++◌, map, length, max, Option, Some, None, IsTrue, IsSome, inl, inr, refl, sym, ap, subst, ◌∙◌, arith, string_bytes}
 use Rattle.std.proofs.lemmas.List.{append-nil}
 use Rattle.std.specs.FinMap.{get}
@@ -114,7 +114,7 @@ not_both sealed generation is none = absurd (let bad : Some generation ≡ None 
 not_empty : {P : Type 0} (inserts : List Entry) → 0 < length inserts → inserts ≡ [] → P
 not_empty inserts filled none = absurd (let empty = ap (λ (es : List Entry). length es) none in omega (arith, filled, empty))
 
--- a cursor over a memory table reads on where that is sealed
+-- a cursor over a memtable reads on where that is sealed
 abbrev pub SealKept : (List ℕ → List ℕ → Ordering) → Type 0
 SealKept cmp = (cursor : MemoriesPlace) (old new : Memories) → IsSome (table_in old cursor.generation) → IsSealed old new → KeepsMemories cmp cursor old new
 

@@ -1,4 +1,4 @@
--- What the sequences hold that a compaction keeps the views of, once they are sorted.
+-- What the sequence numbers hold that a compaction keeps the views of, once they are sorted.
 use Rattle.std.proofs.Common.{◌≡◌, ℕ, Bool, true, false, cond, List, [], ◌∷◌, Option, Some, zero, suc, arith, sym, subst, ◌∙◌, ◌++◌, map, Bor, None, Contains, inl, inr}
 use Rattle.std.specs.BTreeMap.{BTreeMap}
 use Rattle.std.specs.Iterator.{Yields}

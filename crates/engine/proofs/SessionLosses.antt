@@ -1,4 +1,5 @@
--- What a loss of power leaves at any moment of a run of a session, by what each of its commands promises; and at its begin, of an open database or of files that the device has.
+-- What a loss of power leaves at any moment of a run of a session, by what each of its commands
+-- promises; and at its begin, of an open database or of files that the device has.
 use Rattle.std.proofs.Common.{◌≡◌, ◌≤◌, ℕ, Bool, true, false, List, [], ◌∷◌, take, Option, Some, None, is_some, IsSome, IsTrue, inl, inr, refl, sym, ap, subst, ◌∙◌, append-nil, arith}
 use Rattle.std.specs.FinMap.{get}
 use Rattle.batch.specs.declared.operation.Operation.{Operation}

@@ -1,4 +1,4 @@
--- The database of a session, beside its memory table.
+-- The database of a session, beside its memtable.
 use Rattle.std.proofs.Common.{◌≡◌, Option, Some, None, is_some, refl}
 use Rattle.std.specs.Option.{option_map}
 

@@ -1,4 +1,4 @@
--- A new iterator over the memory tables and the tables of a directory.
+-- A new iterator over the memtables and the tables of a directory.
 use Rattle.std.proofs.Common.{ap, ◌∙◌, ◌≡◌, inl, inr, ℕ, zero, suc, Bool, false, Option, Some, None, IsSome, ◌≤◌, ◌++◌, List, [], ◌∷◌, Contains, map, refl, sym, subst, arith}
 use Rattle.std.specs.Cmp.{IsTotalOrder}
 use Rattle.std.specs.declared.cmp.Ordering.{Ordering}
@@ -53,7 +53,8 @@ content_of (c ∷ contents) p (suc k, less, is) = let rest = content_of contents
 some_of : (o : Option (List ℕ)) (file : List ℕ) → o ≡ Some file → IsSome o
 some_of o file is = subst (λ (x : Option (List ℕ)). IsSome x) (sym is) refl
 
--- A new iterator goes over the pairs of the map, in the order of their keys, as far as its tables tell.
+-- A new iterator goes over the pairs of the map, in the order of their keys, as far as its tables
+-- tell.
 abbrev pub BeginsLiveWalk : {K : Type 0} {g : _} → (List ℕ → List ℕ → Ordering) → Bool → Bool → Contents → Whole → Scan K g → Type 0
 BeginsLiveWalk cmp limited damaged map whole iterator =
     (pairs : List (List ℕ × List ℕ)) × AreSortedPairs cmp map pairs × IsLiveWalk cmp limited damaged whole iterator (record { pairs = pairs; place = None })

@@ -23,7 +23,8 @@ use Rattle.store.specs.Losses.{CarriesBut, StaysNamed, StaysOrBegins, behind_syn
 use Rattle.engine.specs.Working.{numbers_of}
 use Rattle.engine.specs.internal.Synced.{HaveNames, HaveStayed}
 
--- None of these names is that of a file which the next open reads: of a table it reads the one with the newer name, where that is there.
+-- None of these names is that of a file which the next open reads: of a table it reads the one with
+-- the newer name, where that is there.
 pub record SparesRead (mine : List ℕ → Type 0) (files : Files) (state : DirectoryState) (tables : List PlacedTable) : Type 0 where
   pub current : mine (name_of Current) → ⊥
   pub manifest : mine (name_of (Manifest state.manifest.number)) → ⊥

@@ -161,7 +161,8 @@ faithful_before order facts (op ∷ ops) (answer ∷ answers) old new h f = h.1.
 faithful_before order facts [] (answer ∷ answers) old new h f = absurd h
 faithful_before order facts (op ∷ ops) [] old new h f = absurd h
 
--- each command leaves what it may in the state that those in front of it led to; at last no call was made
+-- each command leaves what it may in the state that those in front of it led to; at last no call
+-- was made
 pub stops_each : {S K : Type 0} {g : _} (order : Order) (facts : S → Facts) (ops : List Op) (answers : List Answer) (old new : Session S K g) (last : Facts) → AllApplied order facts ops answers old new
     → IsTrue (facts (store_of new)).faithful → last.calls ≡ (facts (store_of new)).calls → last.files ≡ (facts (store_of new)).files → (m : Machine) → m.damaged ≡ false → Stands order facts old m
     → StopsEach order m (facts (store_of old)) last ops answers

@@ -186,7 +186,8 @@ KeepsNames old new used = (n : ℕ) → IsNumbered n → used n → StaysNamed o
 pub names_carried : (old new : Facts) (mine : List ℕ → Type 0) (used : ℕ → Type 0) → ((n : ℕ) → IsNumbered n → used n → mine (name_of (Table n)) → ⊥) → CarriesBut old new mine → KeepsNames old new used
 names_carried old new mine used apart carries n numbered one = stays_on old new mine (name_of (Table n)) (apart n numbered one) carries
 
--- What a call does to what is synced, where it writes no table and leaves all that is known but the log.
+-- What a call does to what is synced, where it writes no table and leaves all that is known but the
+-- log.
 abbrev pub StaysSynced : Facts → Facts → CurrentLog → CurrentLog → DirectoryState → List PlacedTable → (ℕ → Type 0) → Type 0
 StaysSynced old new log after state tables used = IsSyncedBut old log state tables
     → IsSyncedBut new after state tables × ((n : ℕ) → IsNumbered n → new.synced (name_of (Table n)) ≡ old.synced (name_of (Table n))) × KeepsNames old new used

@@ -1,4 +1,5 @@
--- Entries of which some lie in tables, and the newer ones in the logs: what a read of both answers, and what a write adds.
+-- Entries of which some lie in tables, and the newer ones in the logs: what a read of both answers,
+-- and what a write adds.
 use Rattle.std.proofs.Common.{◌≡◌, inl, inr, ℕ, ◌+◌, ◌<◌, ◌≤◌, Option, Some, None, List, [], ◌∷◌, ◌++◌, length, unwrap_or, refl, subst, append_assoc, arith}
 use Rattle.std.specs.BTreeMap.{BTreeMap}
 use Rattle.std.specs.List.{AllByRecursion}
@@ -37,7 +38,7 @@ logged_newer order files tables entries used (inl none) a b i j key = absurd (su
 logged_newer order files tables entries used (inr some) a b i j key =
     some.1.newer a b (subst (λ (es : List Entry). Among es a) some.3 i) (subst (λ (cs : List TableContent). Among (tabled cs) b) some.2 j) key
 
--- no entry is above the last sequence used
+-- no entry is above the last sequence number used
 bounded_in : (order : Order) (files : Files) (d : Directory) → IsConsistent order files d → AllUpTo (used_in d) (tabled d.tables ++ logged d.logs)
 bounded_in order files d h e i = elim (among_split (tabled d.tables) (logged d.logs) e i) [
   | inl old ↦ (let below : e.sequence ≤ d.layout.last_sequence = h.recorded e old in omega (arith, below))

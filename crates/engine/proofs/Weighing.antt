@@ -53,13 +53,13 @@ weighs_less f (x ∷ entries) all apart within =
     let whole = sum_by-cons f x entries in
     omega (arith, rest, weight, whole)
 
--- each has a sequence above this one
+-- each has a sequence number above this one
 above_all : (least : ℕ) (entries : List Entry) (entry : Entry) → RiseAbove least entries → Among entries entry → least < entry.sequence
 above_all least [] entry h i = absurd i
 above_all least (x ∷ entries) entry h (inl is) = (let less = h.0 in let same : entry.sequence ≡ x.sequence = ap (λ (e : Entry). e.sequence) is in omega (arith, less, same))
 above_all least (x ∷ entries) entry h (inr i) = (let less = h.0 in let later = above_all x.sequence entries entry h.1 i in omega (arith, less, later))
 
--- entries whose sequences rise
+-- entries whose sequence numbers rise
 rising_apart : (least : ℕ) (entries : List Entry) → RiseAbove least entries → NoTwice entries
 rising_apart least [] rises = tt
 rising_apart least (x ∷ entries) rises = (λ i. let above = above_all x.sequence entries x rises.1 i in omega (arith, above), rising_apart x.sequence entries rises.1)

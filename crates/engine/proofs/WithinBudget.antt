@@ -104,7 +104,7 @@ module _ {K : Type 0} {g : _} (cmp : Cmp) (options : OptionValues) where
   new_job db plan picked None begun live = begun
   new_job db plan picked (Some work) begun live = record { none = begun.0; picked = subst (λ (p : JobPlan). IsPicked cmp options.level0_files options.base_bytes (version_of db) p) (sym begun.1) picked; live = live }
 
-  -- it is so for a database of the same version that reads at the same sequences
+  -- it is so for a database of the same version that reads at the same sequence numbers
   new_behind : (between before : OpenDb K g) → version_of between ≡ version_of before → live_sequences before ≡ live_sequences between → (o : Option (OpenJob K g)) → MatchOption o ⊥ (IsNewJob cmp options between) → MatchOption o ⊥ (IsNewJob cmp options before)
   new_behind between before version same None h = h
   new_behind between before version same (Some work) h = record {

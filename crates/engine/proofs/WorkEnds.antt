@@ -1,4 +1,5 @@
--- What an open database is, and the machine, when files were removed or a new log was begun, however that ends.
+-- What an open database is, and the machine, when files were removed or a new log was begun,
+-- however that ends.
 use Rattle.std.proofs.Common.{◌≡◌, ◌≢◌, ◌⊎◌, ℕ, ◌+◌, ◌≤◌, ◌<◌, true, false, List, [], ◌∷◌, ◌++◌, map, length, Some, None, Result, Ok, Err, IsTrue, inl, inr, refl, ap, subst, ◌∙◌, arith, String, string_bytes}
 use Rattle.std.specs.FinMap.{get}
 use Rattle.std.specs.declared.alloc.Global.{Global}
@@ -63,7 +64,7 @@ module _ {K : Type 0} {g : _} (order : Order) (kept : (scan : Scan K g) → Scan
   abbrev new : Seen
   new = record old { facts = facts }
 
-  -- where the files are the same, and of the memory tables all that is read
+  -- where the files are the same, and of the memtables all that is read
   pub serving_same : (db : OpenDb K g) (memory : Memories) (m : Machine) → facts.files ≡ old.facts.files → facts.synced ≡ old.facts.synced → StaysSynced old.facts facts db.log db.log db.directory db.tables (IsJobTable db.job) → LeavesMemories db.memory memory → IsServing order old db m → IsServing order new (record db { memory = memory }) (read_by facts m)
   serving_same db memory m same synced stays left h =
       serving_read order kept old new db memory m same (sound_same order lasts old facts same) (λ number is. inl is) (λ number is. inl is) left stays (synced_read old.facts facts synced) h

@@ -47,13 +47,15 @@ use Rattle.engine.specs.Telling.{CommandTells}
 
 -- ---- of one command
 
--- A value that a get answers is what the newest entry of the key in memory put, as far as the read sees.
+-- A value that a get answers is what the newest entry of the key in memory put, as far as the read
+-- sees.
 abbrev pub IsRead : {K : Type 0} {g : _} → List ℕ → Option ℕ → Option (OpenDb K g) → Answer → Type 0
 IsRead key snapshot None (Value value) = ⊥
 IsRead key snapshot (Some db) (Value value) = (sequence : ℕ) × (sequence_at db snapshot ≡ Some sequence) × ReadsMemory db sequence key value
 IsRead key snapshot state _ = Unit {0}
 
--- Work is done where a compaction is under way, a memory table is sealed or full, or a level wants a compaction, and else there is none.
+-- Work is done where a compaction is under way, a memtable is sealed or full, or a level wants
+-- a compaction, and else there is none.
 abbrev pub ShowsWork : {K : Type 0} {g : _} → OptionValues → Option (OpenDb K g) → Answer → Type 0
 ShowsWork options (Some db) Worked =
     IsSome db.job ⊎ IsSome db.memory.sealed ⊎ (options.write_buffer ≤ size_of db.memory.current.inserts) ⊎ ((level : ℕ) × WantsCompaction options db level)
@@ -65,8 +67,8 @@ Shows options (Get key snapshot) state answer = IsRead key snapshot state answer
 Shows options (Work budget) state answer = ShowsWork options state answer
 Shows options _ state answer = Unit {0}
 
--- Behind a compaction of a level that level has no tables; behind one of all, all tables stand in the last level, and nothing is in
--- memory.
+-- Behind a compaction of a level that level has no tables; behind one of all, all tables stand in
+-- the last level, and nothing is in memory.
 abbrev pub EmptiesLevel : {K : Type 0} {g : _} → ℕ → Option (OpenDb K g) → Answer → Type 0
 EmptiesLevel level (Some db) Done = IsLevelEmpty level db
 EmptiesLevel level None Done = Unit {0}
@@ -82,7 +84,8 @@ Leaves (CompactLevel level) state answer = EmptiesLevel level state answer
 Leaves CompactAll state answer = CompactsWhole state answer
 Leaves _ state answer = Unit {0}
 
--- While the store is faithful, the tables have only what is needed behind a compaction of all, in each state that the session could be in.
+-- While the store is faithful, the tables have only what is needed behind a compaction of all, in
+-- each state that the session could be in.
 abbrev pub LeavesOnly : {K : Type 0} {g : _} → Order → Facts → (Machine → Type 0) → Option (OpenDb K g) → Answer → Type 0
 LeavesOnly order facts before (Some db) Done = IsTrue facts.faithful → (m : Machine) → before m → HasOnlyNeeded order facts.files db m
 LeavesOnly order facts before None Done = Unit {0}
@@ -97,9 +100,10 @@ abbrev pub Shuts : {K : Type 0} {g : _} → Op → Option (OpenDb K g) → Type 
 Shuts Close state = state ≡ None
 Shuts _ state = Unit {0}
 
--- What a call of work promises beside its step: which piece of work it was, how far it brought a compaction, and what a table has that it
--- wrote of a memory table; where there was none, that the files
--- are exactly the live ones, unless one couldn't be removed, and that no memory table is kept that is of no use.
+-- What a call of work promises beside its step: which piece of work it was, how far it brought a
+-- compaction, and what a table has that it wrote of a memtable; where there was none, that the
+-- files are exactly the live ones, unless one couldn't be removed, and that no memtable is kept
+-- that is of no use.
 pub record DoneWork {K : Type 0} {g : _} (order : Order) (options : OptionValues) (budget : ℕ) (old new : Seen) (before after : OpenDb K g) (result : Result Progress DbError) : Type 0 where
   pub does : DoesWork order.cmp options budget before after result
   pub within : EndsWithin order options budget old new before after result
@@ -117,7 +121,8 @@ WorksIn order options budget old new (Some before) (Some after) answer.Idle = Do
 WorksIn order options budget old new (Some before) (Some after) (Refused error) = DoneWork order options budget old new before after (Err error)
 WorksIn order options budget old new (Some before) state _ = ⊥
 
--- What a compaction of a level promises that is done: where its tables went, and which of their entries.
+-- What a compaction of a level promises that is done: where its tables went, and which of their
+-- entries.
 pub record DoneLevel {K : Type 0} {g : _} (order : Order) (level : ℕ) (old new : Seen) (before after : OpenDb K g) : Type 0 where
   pub moves : MovesLevel order.cmp level before after
   pub merges : MergesLevel order level old new before after
@@ -126,7 +131,7 @@ abbrev pub LevelAnswered : {K : Type 0} {g : _} → Order → ℕ → Seen → S
 LevelAnswered order level old new before after Done = DoneLevel order level old new before after
 LevelAnswered order level old new before after _ = Unit {0}
 
--- So of the command. Done or refused, no entry of a memory table is touched.
+-- So of the command. Done or refused, no entry of a memtable is touched.
 abbrev pub LevelIn : {K : Type 0} {g : _} → Order → ℕ → Seen → Seen → Option (OpenDb K g) → Option (OpenDb K g) → Answer → Type 0
 LevelIn order level old new (Some before) (Some after) answer = LeavesMemories before.memory after.memory × LevelAnswered order level old new before after answer
 LevelIn order level old new (Some before) None answer = ⊥
@@ -239,7 +244,8 @@ abbrev pub IsReadBy : {K : Type 0} {g : _} → List ℕ → Option ℕ → OpenD
 IsReadBy key snapshot db (Ok value) = IsRead key snapshot (Some db) (Value value)
 IsReadBy key snapshot db (Err e) = Unit {0}
 
--- A value that it answers is what the newest entry of the key in memory put, as far as the read sees.
+-- A value that it answers is what the newest entry of the key in memory put, as far as the read
+-- sees.
 abbrev pub DbRead : {S K : Type 0} {g : _} → List ℕ → Option ℕ → Db S K g → Result (Option (List ℕ)) DbError → Type 0
 DbRead key snapshot db result = IsReadBy key snapshot (open_by db) result
 
@@ -251,7 +257,7 @@ DbWorks cmp budget old new result = DoesWork cmp old.options budget (open_by old
 abbrev pub DbTidies : {S K : Type 0} {g : _} → (S → Facts) → Db S K g → Db S K g → Result Progress DbError → Type 0
 DbTidies facts old new result = result ≡ Ok Idle → IsTrue (facts (db_store_of new)).faithful → (facts (db_store_of new)).failures ≡ (facts (db_store_of old)).failures → HasLiveOnly (facts (db_store_of new)).files (open_by new)
 
--- No memory table is kept then that is of no use.
+-- No memtable is kept then that is of no use.
 abbrev pub DbDrops : {S K : Type 0} {g : _} → Db S K g → Result Progress DbError → Type 0
 DbDrops new result = result ≡ Ok Idle → HasUsedMemory new.source.memory new.state.iterators
 
@@ -267,7 +273,7 @@ DbExact order facts old new result = LeavesExactlyLive order (seen_by facts old)
 abbrev pub DbEndsWithin : {S K : Type 0} {g : _} → Order → (S → Facts) → ℕ → Db S K g → Db S K g → Result Progress DbError → Type 0
 DbEndsWithin order facts budget old new result = EndsWithin order old.options budget (seen_by facts old) (seen_by facts new) (open_by old) (open_by new) result
 
--- The table that it wrote of a sealed memory table has exactly that one's entries.
+-- The table that it wrote of a sealed memtable has exactly that one's entries.
 abbrev pub DbFlushes : {S K : Type 0} {g : _} → Order → (S → Facts) → Db S K g → Db S K g → Result Progress DbError → Type 0
 DbFlushes order facts old new result = FlushesSealed order (seen_by facts old) (seen_by facts new) (open_by old) (open_by new) result
 

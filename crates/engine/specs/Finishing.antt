@@ -14,8 +14,8 @@ use Rattle.engine.specs.Outcomes.{KeepsViews}
 
 -- ---- over any store
 
--- What a compaction leaves: the views, and the database as it was, or broken now, and that only where a failure was counted. What it had done
--- before it was refused, it keeps.
+-- What a compaction leaves: the views, and the database as it was, or broken now, and that only
+-- where a failure was counted. What it had done before it was refused, it keeps.
 pub record CompactOutcome {T K : Type 0} {g : _} (may : DbError → Type 0) (old new : Facts) (before after : OpenDb K g) (result : Result T DbError) : Type 0 where
   pub failures : old.failures ≤ new.failures
   pub denials : new.denials ≡ old.denials
@@ -32,15 +32,16 @@ pub record CompactOutcome {T K : Type 0} {g : _} (may : DbError → Type 0) (old
 abbrev pub IsLevelEmpty : {K : Type 0} {g : _} → ℕ → OpenDb K g → Type 0
 IsLevelEmpty level db = tables_at level db.tables ≡ []
 
--- The compaction that was under way came to its end, if one was. Behind it the tables of the level, where it had some, were compacted
--- into the next one, with what they bring along; its other tables stay.
+-- The compaction that was under way came to its end, if one was. Behind it the tables of the level,
+-- where it had some, were compacted into the next one, with what they bring along; its other tables
+-- stay.
 pub record MovesLevel {K : Type 0} {g : _} (cmp : Cmp) (level : ℕ) (before after : OpenDb K g) : Type 0 where
   pub between : List PlacedTable
   pub ended : MatchOption before.job (between ≡ before.tables) (λ work. ReplacesInputs work.job.plan before.tables between)
   pub moved : ((tables_at level between ≡ []) × (after.tables ≡ between)) ⊎ ((plan : JobPlan) × IsLevelPlan cmp between level plan × ReplacesInputs plan between after.tables)
   pub idle : after.job ≡ None
 
--- No entry is in memory alone, and no memory table is sealed.
+-- No entry is in memory alone, and no memtable is sealed.
 pub record HasNoMemory {K : Type 0} {g : _} (db : OpenDb K g) : Type 0 where
   pub current : db.memory.current.inserts ≡ []
   pub sealed : db.memory.sealed ≡ None

@@ -17,7 +17,8 @@ use Rattle.machine.specs.Access.{accepted}
 use Rattle.machine.specs.Machine.{Machine, current, entry_weight}
 use Rattle.machine.specs.Step.{Run}
 
--- The files are a database of what the machine accepted: they are empty or a consistent directory, whose entries show its map.
+-- The files are a database of what the machine accepted: they are empty or a consistent directory,
+-- whose entries show its map.
 pub record Holds (order : Order) (files : Files) (m : Machine) : Type 0 where
   pub entries : List Entry
   pub directory : IsDirectory order files entries m.used
@@ -27,13 +28,15 @@ pub record Holds (order : Order) (files : Files) (m : Machine) : Type 0 where
 abbrev pub HoldsAccepted : Order → Files → Machine → Type 0
 HoldsAccepted order files m = MatchOption m.in_doubt (Holds order files m) (λ batch. Holds order files m ⊎ Holds order files (accepted m batch false))
 
--- What else it says of them: whether there is a database, a number from which on all are free, and whether all of it can be read.
+-- What else it says of them: whether there is a database, a number from which on all are free, and
+-- whether all of it can be read.
 pub record Bounds (order : Order) (files : Files) (m : Machine) : Type 0 where
   pub made : m.made ≡ contains_key files (name_of Current)
   pub numbers : IsFree order files m.numbers
   pub limits : m.over_limit ≡ false → IsWithinLimits order files
 
--- The machine before the first command: nothing was accepted yet, nothing is open, and no id was given.
+-- The machine before the first command: nothing was accepted yet, nothing is open, and no id was
+-- given.
 pub record IsFirst (order : Order) (facts : Facts) (m : Machine) : Type 0 where
   pub holds : Holds order facts.files m
   pub bounds : Bounds order facts.files m
@@ -43,20 +46,22 @@ pub record IsFirst (order : Order) (facts : Facts) (m : Machine) : Type 0 where
   pub counts : (m.failures ≡ facts.failures) × (m.denials ≡ facts.denials)
   pub size : (m.first_entries ≡ length holds.entries) × (m.first_weight ≡ sum_by entry_weight holds.entries)
 
--- The machine behind the last one: the files hold what it accepted, with the batch in doubt as a whole or without it.
+-- The machine behind the last one: the files hold what it accepted, with the batch in doubt as a
+-- whole or without it.
 pub record IsLast (order : Order) (facts : Facts) (m : Machine) : Type 0 where
   pub holds : HoldsAccepted order facts.files m
   pub bounds : Bounds order facts.files m
   pub failures : m.failures ≤ facts.failures
   pub denials : m.denials ≡ facts.denials
 
--- While the store is faithful, each machine of the files at first, which are undamaged, gives these answers to these commands, and the files
--- are then those of the machine that it comes to.
+-- While the store is faithful, each machine of the files at first, which are undamaged, gives these
+-- answers to these commands, and the files are then those of the machine that it comes to.
 abbrev pub Headline : Order → Facts → Facts → List Op → List Answer → Type 0
 Headline order old new ops answers =
     IsTrue new.faithful → (first : Machine) → IsFirst order old first → first.damaged ≡ false → (last : Machine) × Run order first ops answers last × IsLast order new last
 
--- There is a machine of each empty or consistent directory, damaged or not; over no limit, where the directory passes none.
+-- There is a machine of each empty or consistent directory, damaged or not; over no limit, where
+-- the directory passes none.
 abbrev pub FirstLaw : Type 0
 FirstLaw = (order : Order) (facts : Facts) (entries : List Entry) (used : ℕ) (over_limit damaged : Bool) → IsTotalOrder order.cmp → IsDirectory order facts.files entries used
     → (over_limit ≡ false → IsWithinLimits order facts.files) → (first : Machine) × IsFirst order facts first × (first.over_limit ≡ over_limit) × (first.damaged ≡ damaged)

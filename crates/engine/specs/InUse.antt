@@ -1,4 +1,4 @@
--- Which tables and memory tables an open database still reads.
+-- Which tables and memtables an open database still reads.
 use Rattle.std.specs.Prelude.{◌≡◌, ◌⊎◌, ℕ, List, Option, Some, None, Any, MatchOption}
 use Rattle.std.specs.BTreeMap.{BTreeMap}
 use Rattle.std.specs.Map.{values_of}
@@ -26,10 +26,11 @@ IsJobTable job number = MatchOption job ⊥ (λ work. HasNumber number work.job.
 abbrev pub IsTableUsed : {K : Type 0} {g : _} → List PlacedTable → Option (OpenJob K g) → BTreeMap ℕ (Scan K g) → ℕ → Type 0
 IsTableUsed tables job iterators number = IsTableRead tables iterators number ⊎ IsJobTable job number
 
--- an open iterator reads the memory table of this generation
+-- an open iterator reads the memtable of this generation
 abbrev pub IsMemoryUsed : {K : Type 0} {g : _} → BTreeMap ℕ (Scan K g) → ℕ → Type 0
 IsMemoryUsed iterators generation = AnyIterator iterators (λ scan. reads_memory scan generation)
 
--- beside the current memory table none is there but the sealed one and those that open iterators read
+-- beside the current memtable none is there but the sealed one and those that open iterators
+-- read
 abbrev pub HasUsedMemory : {K : Type 0} {g : _} → Memories → BTreeMap ℕ (Scan K g) → Type 0
 HasUsedMemory memory iterators = (generation : ℕ) → ((memory.sealed ≡ Some generation) ⊎ IsMemoryUsed iterators generation → ⊥) → older_at memory.older generation ≡ None

@@ -30,7 +30,8 @@ use Rattle.engine.specs.declared.ids.Ids.{Ids}
 use Rattle.engine.specs.internal.Standing.{StandsClosed}
 use Rattle.engine.specs.declared.session.Session.{Session}
 
--- The log that writes go to is synced as the last call, no log in front of it is in doubt, and the database goes on serving.
+-- The log that writes go to is synced as the last call, no log in front of it is in doubt, and the
+-- database goes on serving.
 pub record HasSyncedLog {K : Type 0} {g : _} (facts : Facts) (db : OpenDb K g) : Type 0 where
   pub last : IsSynced facts (string_bytes db.log.name)
   pub front : db.log.front.items ≡ []
@@ -43,15 +44,18 @@ SyncsLogs asked new after result = IsTrue new.faithful → asked → OnOk result
 
 -- ---- what a loss leaves
 
--- The tables that were there before the open, whose numbers are below that of its MANIFEST, read as they do. (Who wrote them had the device keep them.)
+-- The tables that were there before the open, whose numbers are below that of its MANIFEST, read as
+-- they do. (Who wrote them had the device keep them.)
 abbrev pub LeavesFound : {K : Type 0} {g : _} → Files → Files → OpenDb K g → Type 0
 LeavesFound files lost db = (n : ℕ) → IsNumbered n → n < db.directory.manifest.number → table_at lost n ≡ table_at files n
 
--- Every loss of power until the next call leaves files that hold what the machine accepted, if it leaves those tables.
+-- Every loss of power until the next call leaves files that hold what the machine accepted, if it
+-- leaves those tables.
 abbrev pub Outlasts : {K : Type 0} {g : _} → Order → Facts → OpenDb K g → Machine → Type 0
 Outlasts order facts db m = (lost : Files) → Lost facts (moment facts) lost → LeavesFound facts.files lost db → Holds order lost m
 
--- So it is behind a write that asks for it, where it is accepted: of whatever the database stands for then.
+-- So it is behind a write that asks for it, where it is accepted: of whatever the database stands
+-- for then.
 abbrev pub DbOutlasts : {S K T : Type 0} {g : _} → Type 0 → Order → (S → Facts) → Db S K g → Result T DbError → Type 0
 DbOutlasts asked order facts new result =
     IsTrue (facts (db_store_of new)).faithful → asked → OnOk result ((m : Machine) → m.damaged ≡ false → StandsDb order facts new m → Outlasts order (facts (db_store_of new)) (open_by new) m)
@@ -74,7 +78,8 @@ OutlastsBy _ order facts new answer = Unit {0}
 
 -- ---- between any two calls
 
--- Of the directory that the files are, all is left but batches at the ends of logs, none of which was synced.
+-- Of the directory that the files are, all is left but batches at the ends of logs, none of which
+-- was synced.
 pub record LeavesCut (order : Order) (facts : Facts) (lost : Files) : Type 0 where
   pub directory : Directory
   pub whole : IsConsistent order facts.files directory
@@ -82,14 +87,15 @@ pub record LeavesCut (order : Order) (facts : Facts) (lost : Files) : Type 0 whe
   pub cut : AreCut facts directory.logs logs
   pub left : IsConsistent order lost (record directory { logs = logs })
 
--- Those of the logs that were there before the open are left as they are which the device isn't known to have whole. (An accepted open has it keep them all:
--- HasKeptLogs.)
+-- Those of the logs that were there before the open are left as they are which the device isn't
+-- known to have whole. (An accepted open has it keep them all: HasKeptLogs.)
 abbrev pub LeavesFoundLogs : {K : Type 0} {g : _} → Files → Files → OpenDb K g → Type 0
 LeavesFoundLogs files lost db = (n : ℕ) → IsNumbered n → n < db.directory.manifest.number → Contains (map string_bytes db.log.front.items) (name_of (Log n))
     → get lost (name_of (Log n)) ≡ get files (name_of (Log n))
 
--- The files hold the first of the batches that the machine accepted, no fewer than the last write with sync had the device keep, and no others: none is gone in
--- front of one that is there. (A MANIFEST may have recorded that later sequences were used.)
+-- The files hold the first of the batches that the machine accepted, no fewer than the last write
+-- with sync had the device keep, and no others: none is gone in front of one that is there. (A
+-- MANIFEST may have recorded that later sequence numbers were used.)
 pub record HoldsFirst (order : Order) (files : Files) (m : Machine) : Type 0 where
   pub count : ℕ
   pub within : count ≤ length m.batches
@@ -97,8 +103,8 @@ pub record HoldsFirst (order : Order) (files : Files) (m : Machine) : Type 0 whe
   pub used : ℕ
   pub holds : Holds order files (record m { batches = take count m.batches; used = used })
 
--- Every loss of power until the next call leaves so much of an open database that isn't broken, whatever the last call was and answered, if it leaves what the open
--- found.
+-- Every loss of power until the next call leaves so much of an open database that isn't broken,
+-- whatever the last call was and answered, if it leaves what the open found.
 abbrev pub LosesEnds : {K : Type 0} {g : _} → Order → Facts → OpenDb K g → Machine → Type 0
 LosesEnds order facts db m = db.broken ≡ false → (lost : Files) → Lost facts (moment facts) lost → LeavesFound facts.files lost db
     → LeavesCut order facts lost × (LeavesFoundLogs facts.files lost db → HoldsFirst order lost m)
@@ -116,7 +122,8 @@ SessionLosesEnds order facts session = LosesEndsOver order (seen_in facts sessio
 
 -- ---- in the middle of a call
 
--- Of files with numbers below this one each is synced whole, or the loss has left it whole, or taken it away. (It takes no name away that stays.)
+-- Of files with numbers below this one each is synced whole, or the loss has left it whole, or
+-- taken it away. (It takes no name away that stays.)
 abbrev pub SparesBelow : Facts → ℕ → Files → Type 0
 SparesBelow facts bound lost = (n : ℕ) → IsNumbered n → n < bound
     → IsLeftWhole facts lost (name_of (Table n)) × IsLeftWhole facts lost (name_of (OldTable n)) × IsLeftWhole facts lost (name_of (Log n))
@@ -125,11 +132,13 @@ SparesBelow facts bound lost = (n : ℕ) → IsNumbered n → n < bound
 abbrev pub SparesFound : {K : Type 0} {g : _} → Facts → OpenDb K g → Files → Type 0
 SparesFound facts db lost = SparesBelow facts db.directory.manifest.number lost
 
--- A loss of power at any moment since old leaves the first of the accepted batches, if it spares these.
+-- A loss of power at any moment since old leaves the first of the accepted batches, if it spares
+-- these.
 abbrev pub LosesFirst : {K : Type 0} {g : _} → Order → Facts → Facts → OpenDb K g → Machine → Type 0
 LosesFirst order old new db m = LosesOnly old new (λ lost. SparesFound old db lost → HoldsFirst order lost m)
 
--- While the store is faithful, so it is from each state without damage of a database that isn't broken.
+-- While the store is faithful, so it is from each state without damage of a database that isn't
+-- broken.
 abbrev pub DbLosesTo : {S K : Type 0} {g : _} → Order → (S → Facts) → Db S K g → Facts → Type 0
 DbLosesTo order facts old new = IsTrue new.faithful → (m : Machine) → m.damaged ≡ false → StandsDb order facts old m → (open_by old).broken ≡ false
     → LosesFirst order (facts (db_store_of old)) new (open_by old) m
@@ -144,14 +153,16 @@ DbLosesWrite order facts operations old new = IsTrue (facts (db_store_of new)).f
 
 -- ---- in the middle of an open
 
--- Where the device has the names that were there, a loss of power that cuts no file short which was there leaves what was accepted, the batch in doubt wholly or not.
+-- Where the device has the names that were there, a loss of power that cuts no file short which was
+-- there leaves what was accepted, the batch in doubt wholly or not.
 abbrev pub OpenLoses : Order → Facts → Facts → Ids → Type 0
 OpenLoses order old new ids = IsTrue new.faithful → (m : Machine) → m.damaged ≡ false → StandsClosed order old ids m → ((name : List ℕ) → StaysNamed old name)
     → LosesOnly old new (λ lost. LeavesUncut old lost → HoldsAccepted order lost m)
 
 -- ---- of a session
 
--- The machine whose first batches are left in the middle of a command: of a write its batch is the last of them.
+-- The machine whose first batches are left in the middle of a command: of a write its batch is the
+-- last of them.
 abbrev pub with_written : Machine → Op → Machine
 with_written m (Write operations sync) = accepted m operations.items false
 with_written m _ = m

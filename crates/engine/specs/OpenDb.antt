@@ -12,8 +12,9 @@ use Rattle.opening.specs.declared.directory.DirectoryState.{DirectoryState}
 use Rattle.opening.specs.declared.directory.CurrentLog.{CurrentLog}
 use Rattle.engine.specs.declared.state.DbState.{DbState}
 
--- Its memory tables, the tables of its version and the compact pointers, the log that writes go to, what it knows of its directory beside, the compaction that is
--- under way, if one is, the last sequence that each live snapshot sees, the open iterators, and whether it is broken.
+-- Its memtables, the tables of its version and the compact pointers, the log that writes go to,
+-- what it knows of its directory beside, the compaction that is under way, if one is, the last
+-- sequence number that each live snapshot sees, the open iterators, and whether it is broken.
 pub record OpenDb (K : Type 0) (g : _) : Type 0 where
   pub memory : Memories
   pub tables : List PlacedTable
@@ -25,7 +26,7 @@ pub record OpenDb (K : Type 0) (g : _) : Type 0 where
   pub iterators : BTreeMap ℕ (Scan K g)
   pub broken : Bool
 
--- a database beside its memory tables
+-- a database beside its memtables
 abbrev pub open_db : {K : Type 0} {g : _} → Memories → DbState K g → OpenDb K g
 open_db memory state = record {
   memory = memory;
@@ -43,6 +44,6 @@ open_db memory state = record {
 abbrev pub version_of : {K : Type 0} {g : _} → OpenDb K g → Placement
 version_of db = record { tables = db.tables; compact_pointers = db.compact_pointers }
 
--- what its reads go over: its store with what is kept of its tables, and its memory tables
+-- what its reads go over: its store with what is kept of its tables, and its memtables
 abbrev pub whole_of : {K : Type 0} {g : _} → Seen → OpenDb K g → Whole
 whole_of source db = record { seen = source; memory = db.memory }

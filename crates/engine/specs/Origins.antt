@@ -6,8 +6,8 @@ use Rattle.ikey.specs.Orders.{Order}
 use Rattle.recover.specs.Directory.{Directory, IsConsistent}
 use Rattle.store.specs.Files.{Files}
 
--- The files may come from this directory: they differ in its tables alone, whose files may be what damage left of them. Without damage they
--- are the directory.
+-- The files may come from this directory: they differ in its tables alone, whose files may be what
+-- damage left of them. Without damage they are the directory.
 pub record ComesFrom (order : Order) (damaged : Bool) (files ideal : Files) : Type 0 where
   pub differs : DiffersInTables files ideal
   pub origins : (d : Directory) → IsConsistent order ideal d → HaveOrigins order.cmp files ideal d.layout.tables.items

@@ -1,5 +1,5 @@
--- The headline over tables that may be damaged: what a run answers and leaves is that of each undamaged directory from which the files may
--- come.
+-- The headline over tables that may be damaged: what a run answers and leaves is that of each
+-- undamaged directory from which the files may come.
 use Rattle.std.specs.Prelude.{◌≡◌, true, IsTrue, List}
 use Rattle.directory_writes.specs.Differing.{with_files}
 use Rattle.ikey.specs.Orders.{Order}
@@ -11,8 +11,9 @@ use Rattle.store.specs.Files.{Facts, Files}
 use Rattle.engine.specs.Headline.{IsFirst, IsLast}
 use Rattle.engine.specs.Origins.{ComesFrom}
 
--- While the store is faithful: each machine of a directory from which the files at first may come gives these answers to these commands,
--- which may then be refusals as damaged, too; and a directory from which the files may come then is that of the machine that it comes to.
+-- While the store is faithful: each machine of a directory from which the files at first may come
+-- gives these answers to these commands, which may then be refusals as damaged, too; and a
+-- directory from which the files may come then is that of the machine that it comes to.
 abbrev pub OverDamage : Order → Facts → Facts → List Op → List Answer → Type 0
 OverDamage order old new ops answers =
     IsTrue new.faithful → (ideal : Files) → ComesFrom order true old.files ideal → (first : Machine) → IsFirst order (with_files old ideal) first → first.damaged ≡ true

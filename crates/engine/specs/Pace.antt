@@ -13,7 +13,8 @@ use Rattle.engine.specs.OptionValues.{OptionValues}
 use Rattle.engine.specs.declared.pace.Pace.{Pace}
 use Rattle.engine.specs.declared.pace.Pace.TheVariants.{KeepsUp, Refused}
 
--- Nothing that is read has changed: file numbers were drawn, and a failure of the store may have broken the database.
+-- Nothing that is read has changed: file numbers were drawn, and a failure of the store may have
+-- broken the database.
 abbrev pub OnlyWorks : Machine → Machine → Type 0
 OnlyWorks old new = (old.numbers ≤ new.numbers) × (new ≈ record old { numbers = new.numbers; broken = new.broken })
 
@@ -21,8 +22,8 @@ OnlyWorks old new = (old.numbers ≤ new.numbers) × (new ≈ record old { numbe
 abbrev pub OnlyDraws : Machine → Machine → Type 0
 OnlyDraws old new = OnlyWorks old new × (new.broken ≡ old.broken)
 
--- Work keeps up with writes: the memory table that takes them has fewer bytes than it may, and level 0 at most three times as many tables
--- as bring a compaction about.
+-- Work keeps up with writes: the memtable that takes them has fewer bytes than it may, and
+-- level 0 at most three times as many tables as bring a compaction about.
 pub record HasKeptUp {K : Type 0} {g : _} (options : OptionValues) (db : OpenDb K g) : Type 0 where
   pub memory : size_of db.memory.current.inserts < options.write_buffer
   pub tables : length (tables_at 0 db.tables) ≤ 3 * options.level0_files

@@ -1,4 +1,5 @@
--- Walks over the pairs whose keys lie in a range (LevelDB's include/leveldb/db.h, `Range`, and iterator.h).
+-- Walks over the pairs whose keys lie in a range (LevelDB's include/leveldb/db.h, `Range`, and
+-- iterator.h).
 use Rattle.std.specs.Prelude.{◌≡◌, ◌⊎◌, ◌&&◌, ◌+◌, ℕ, Bool, true, not, nat_eq, nat_lt, if◌then◌else◌, Option, Some, None, Result, Ok, Err, OnOk, IfErr, MatchBool, MatchOption, List, [], ◌∷◌, ◌++◌, take, drop}
 use Rattle.std.specs.List.{filter}
 use Rattle.std.specs.Map.{lookup}
@@ -44,7 +45,8 @@ is_in_range cmp keys key = is_from cmp keys.from key && is_before_end cmp keys.t
 abbrev pub pairs_within : Cmp → KeyRange → List Pair → List Pair
 pairs_within cmp keys pairs = filter (λ (pair : Pair). is_in_range cmp keys pair.0) pairs
 
--- In the order of bytes, what comes first behind all keys that begin so: its last byte below 255 is raised, and nothing stands behind it.
+-- In the order of bytes, what comes first behind all keys that begin so: its last byte below 255 is
+-- raised, and nothing stands behind it.
 abbrev pub end_of : ℕ → Option (List ℕ) → Option (List ℕ)
 end_of byte (Some end) = Some (byte ∷ end)
 end_of byte None = if nat_lt byte 255 then Some ((byte + 1) ∷ []) else None
@@ -68,7 +70,8 @@ abbrev pub up_to : Cmp → Option (List ℕ) → List Pair → List Pair
 up_to cmp to [] = []
 up_to cmp to (pair ∷ pairs) = if is_before_end cmp to pair.0 then pair ∷ up_to cmp to pairs else []
 
--- what is left of a walk whose iterator stands so: of one that hasn't begun all of the range, and of any other what is behind its place
+-- what is left of a walk whose iterator stands so: of one that hasn't begun all of the range, and
+-- of any other what is behind its place
 abbrev pub LeftAt : Cmp → Stage → KeyRange → Walk → List Pair → Type 0
 LeftAt cmp Ahead keys at rest = rest ≡ up_to cmp keys.to (drop (start_of cmp keys.from at.pairs) at.pairs)
 LeftAt cmp Within keys at rest = (i : ℕ) × (at.place ≡ Some i) × (rest ≡ up_to cmp keys.to (drop (i + 1) at.pairs))
@@ -105,14 +108,16 @@ next_motion Ahead keys = start_motion keys.from
 next_motion Within keys = ToNext
 next_motion Over keys = ToNext
 
--- What the walk makes of the pair that its iterator came to: a pair at the end or behind it is none of its own.
+-- What the walk makes of the pair that its iterator came to: a pair at the end or behind it is none
+-- of its own.
 abbrev pub Settles : Cmp → RangeWalk → Option Pair → RangeWalk → Option Pair → Type 0
 Settles cmp old None new result = (result ≡ None) × (new ≡ record old { stage = Over })
 Settles cmp old (Some pair) new result = MatchBool (is_before_end cmp old.keys.to pair.0)
     ((result ≡ Some pair) × (new ≡ record old { stage = Within }))
     ((result ≡ None) × (new ≡ record old { stage = Over }))
 
--- The first of these is given, and the others are left; none where none was left. A refusal leaves all.
+-- The first of these is given, and the others are left; none where none was left. A refusal leaves
+-- all.
 abbrev pub GivesFirst : List Pair → Result (Option Pair) DbError → (List Pair → Type 0) → Type 0
 GivesFirst rest (Ok None) Left = (rest ≡ []) × Left []
 GivesFirst rest (Ok (Some pair)) Left = (more : List Pair) × (rest ≡ pair ∷ more) × Left more
@@ -137,7 +142,8 @@ SameWalk old new = (new.id ≡ old.id) × (new.keys ≡ old.keys)
 abbrev pub RefusesFill : Machine → DbError → Machine → Type 0
 RefusesFill old e new = RefusesWalk old e new ⊎ ((e ≡ error.OutOfMemory) × (new ≈ old))
 
--- As many as there are, and no more than this, are put behind those that were there. Of a refusal too, those that came are put there, and the others are left.
+-- As many as there are, and no more than this, are put behind those that were there. Of a refusal
+-- too, those that came are put there, and the others are left.
 pub record Fills (order : Order) (limit : ℕ) (old : Machine) (before : RangeWalk) (had : List Pair) (result : Result (Unit {0}) DbError) (new : Machine) (after : RangeWalk) (has : List Pair) : Type 0 where
   pub gives : (rest : List Pair) → HasLeft order old before rest →
       (came left : List Pair) × (has ≡ had ++ came) × (rest ≡ came ++ left) × HasLeft order new after left × OnOk result (came ≡ take limit rest)

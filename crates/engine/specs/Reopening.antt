@@ -1,4 +1,5 @@
--- Any open behind other calls of the same store, refused or not, whatever they were: what a loss of power leaves in its middle is what it left in front of it.
+-- Any open behind other calls of the same store, refused or not, whatever they were: what a loss of
+-- power leaves in its middle is what it left in front of it.
 use Rattle.std.specs.Prelude.{◌≡◌, ◌⊎◌, ◌<◌, ◌≤◌, ◌++◌, ◌∷◌, [], ℕ, List, false, IsSome, IsTrue, Option, Some, None}
 use Rattle.std.specs.FinMap.{get}
 use Rattle.edits.specs.Names.{IsNumbered, name_of}
@@ -43,7 +44,8 @@ pub record StaysFound (since now : Facts) (bound : ℕ) : Type 0 where
   pub from : (bound ≡ 0) ⊎ ((number : ℕ) × NamesManifest now number × (bound ≤ number))
   pub each : StayBelow since now bound
 
--- In a call of an open database so is each that was there before its open; and `CURRENT` and the lock's file are as they were.
+-- In a call of an open database so is each that was there before its open; and `CURRENT` and the
+-- lock's file are as they were.
 pub record KeepsFound {K : Type 0} {g : _} (old new : Facts) (db : OpenDb K g) : Type 0 where
   pub current : get new.files (name_of Current) ≡ get old.files (name_of Current)
   pub lock : get new.files lock_name ≡ get old.files lock_name
@@ -68,7 +70,8 @@ IsFresh db = (db.job ≡ None) × (db.iterators.entries ≡ [])
 
 -- ---- an open
 
--- A loss leaves the first of the batches of a machine, if it spares the files with numbers below this one that were there then.
+-- A loss leaves the first of the batches of a machine, if it spares the files with numbers below
+-- this one that were there then.
 abbrev pub LeavesFirst : Order → Facts → ℕ → Machine → Files → Type 0
 LeavesFirst order since bound m lost = SparesBelow since bound lost → HoldsFirst order lost m
 
@@ -77,7 +80,8 @@ abbrev pub LosesOn : Order → Facts → Facts → Type 0
 LosesOn order old new = (since : Facts) (bound : ℕ) (m : Machine) → StaysFound since old bound → LosesOnly old old (LeavesFirst order since bound m)
     → LosesOnly old new (LeavesFirst order since bound m) × StaysFound since new bound
 
--- So it is in the middle of each open of a store that has the lock's file, as it has behind each that was accepted.
+-- So it is in the middle of each open of a store that has the lock's file, as it has behind each
+-- that was accepted.
 abbrev pub OpenLosesOn : Order → Facts → Facts → Ids → Type 0
 OpenLosesOn order old new ids = IsTrue new.faithful → IsSome (get old.files lock_name) → (n : Machine) → n.damaged ≡ false → StandsClosed order old ids n → LosesOn order old new
 

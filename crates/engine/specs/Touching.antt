@@ -26,8 +26,8 @@ done = Ok tt
 
 -- ---- a write
 
--- What was put behind the file of this name is synced where that was asked for. Those in front of it are synced wherever something was put there;
--- nothing else is.
+-- What was put behind the file of this name is synced where that was asked for. Those in front of
+-- it are synced wherever something was put there; nothing else is.
 pub record SyncsLog {T E : Type 0} (some asked : Type 0) (sync : Bool) (name : List ℕ) (front : List (List ℕ)) (old new : Facts) (result : Result T E) : Type 0 where
   pub kept : IsTrue new.faithful → asked → OnOk result (IsSynced new name)
   pub front_kept : IsTrue new.faithful → some → IsNoneOf name front → OnOk result (AllByRecursion (IsSynced new) front)
@@ -60,13 +60,14 @@ abbrev pub told_failures : DbError → ℕ
 told_failures Io = 1
 told_failures _ = 0
 
--- An accepted open holds the lock. A refused one doesn't, unless it was held before or the store failed to give it back: then it failed
--- once more than the refusal tells.
+-- An accepted open holds the lock. A refused one doesn't, unless it was held before or the store
+-- failed to give it back: then it failed once more than the refusal tells.
 pub record Locks {T : Type 0} (old new : Facts) (result : Result T DbError) : Type 0 where
   pub locked : OnOk result (new.locked ≡ true)
   pub freed : IfErr result (λ e. new.locked ≡ true → (old.locked ≡ true) ⊎ (old.failures + told_failures e < new.failures))
 
--- Behind an accepted open the file `LOCK` is there. One that was there is left alone, also by an open that is refused.
+-- Behind an accepted open the file `LOCK` is there. One that was there is left alone, also by an
+-- open that is refused.
 pub record HasLockFile {T : Type 0} (old new : Facts) (result : Result T DbError) : Type 0 where
   pub there : IsTrue new.faithful → OnOk result (IsSome (get new.files lock_name))
   pub stays : IsTrue new.faithful → IsSome (get old.files lock_name) → LeavesFile old new lock_name
@@ -77,7 +78,8 @@ Frees old new = new.locked ≡ true → old.failures < new.failures
 
 -- ---- every command
 
--- Nothing is changed, synced, locked or given back, at any moment, nor was there a call that failed at it.
+-- Nothing is changed, synced, locked or given back, at any moment, nor was there a call that failed
+-- at it.
 pub record LeavesStore (old new : Facts) : Type 0 where
   pub writes : FailsNoWrite old new
   pub files : IsTrue new.faithful → new.files ≡ old.files
@@ -92,8 +94,8 @@ pub record ClosesStore (old new : Facts) : Type 0 where
   pub freed : Frees old new
   pub calls : KeepsCalls old new
 
--- An open leaves `CURRENT` and its MANIFEST synced whole wherever it changed them, and the files of other programs alone, also one that
--- is refused.
+-- An open leaves `CURRENT` and its MANIFEST synced whole wherever it changed them, and the files of
+-- other programs alone, also one that is refused.
 pub record OpensStore {T : Type 0} (old new : Facts) (result : Result T DbError) : Type 0 where
   pub locks : Locks old new result
   pub lock_file : HasLockFile old new result

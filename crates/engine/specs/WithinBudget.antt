@@ -1,4 +1,5 @@
--- How far a call of work brings a compaction: by as many entries as its budget has, and to its end where no more are left.
+-- How far a call of work brings a compaction: by as many entries as its budget has, and to its end
+-- where no more are left.
 use Rattle.std.specs.Prelude.{◌≡◌, ◌⊎◌, ◌<◌, ◌≤◌, ℕ, false, IsTrue, IsSome, Option, None, List, length, max, MatchOption, Result, Ok}
 use Rattle.coding.specs.declared.error.DbError.{DbError}
 use Rattle.cursor.specs.Places.{Cmp}
@@ -38,14 +39,15 @@ HasLeftBy order source db most job = MatchOption job (HasLeftUpTo order source d
 
 -- ---- where it began
 
--- It is the compaction that is most wanted, for the sequences that are read at, and nothing came to it.
+-- It is the compaction that is most wanted, for the sequence numbers that are read at, and nothing
+-- came to it.
 pub record IsNewJob {K : Type 0} {g : _} (cmp : Cmp) (options : OptionValues) (db : OpenDb K g) (work : OpenJob K g) : Type 0 where
   pub none : work.merged ≡ 0
   pub picked : IsPicked cmp options.level0_files options.base_bytes (version_of db) work.job.plan
   pub live : IsForLive work db
 
--- A state that the call came through, not broken, with the tables that there were before and what their files held, and with the compaction
--- that was under way, or with a new one.
+-- A state that the call came through, not broken, with the tables that there were before and what
+-- their files held, and with the compaction that was under way, or with a new one.
 pub record IsBeforeStep {K : Type 0} {g : _} (order : Order) (options : OptionValues) (old between : Seen) (before mid : OpenDb K g) : Type 0 where
   pub stands : (ids : Ids) (m : Machine) → StandsWhole order old ids before m → (n : Machine) × StandsWhole order between ids mid n
   pub whole : mid.broken ≡ false
@@ -53,12 +55,14 @@ pub record IsBeforeStep {K : Type 0} {g : _} (order : Order) (options : OptionVa
   pub files : KeepsTableFiles order old between before
   pub job : (mid.job ≡ before.job) ⊎ ((before.job ≡ None) × MatchOption mid.job ⊥ (IsNewJob order.cmp options before))
 
--- It came through one in which so much was left, and where the compaction is at its end, this is what has become of it.
+-- It came through one in which so much was left, and where the compaction is at its end, this is
+-- what has become of it.
 abbrev pub StepsBy : {K : Type 0} {g : _} → Order → OptionValues → Seen → Seen → OpenDb K g → OpenDb K g → ℕ → Type 0
 StepsBy {K} {g} order options old new before after most =
     (between : Seen) × (mid : OpenDb K g) × IsBeforeStep order options old between before mid × HasLeftBy order between mid most after.job × (after.job ≡ None → PutsMerged order between new mid after)
 
--- Where it went on with a compaction, or began one, that is at its end exactly where no more were left than its budget has, one for 0.
+-- Where it went on with a compaction, or began one, that is at its end exactly where no more were
+-- left than its budget has, one for 0.
 abbrev pub EndsWithin : {K : Type 0} {g : _} → Order → OptionValues → ℕ → Seen → Seen → OpenDb K g → OpenDb K g → Result Progress DbError → Type 0
 EndsWithin order options budget old new before after result =
     result ≡ Ok Worked → IsSome before.job ⊎ IsAtEase options before → IsTrue new.facts.faithful → StepsBy order options old new before after (max budget 1)

@@ -31,18 +31,20 @@ use Rattle.engine.specs.declared.work.Progress.TheVariants as progress
 
 -- ---- which piece it is
 
--- so many entries more of its inputs came to the same compaction, which is for the same version and the same sequences
+-- so many entries more of its inputs came to the same compaction, which is for the same version and
+-- the same sequence numbers
 abbrev pub IsFurther : {K : Type 0} {g : _} → OpenJob K g → ℕ → OpenJob K g → Type 0
 IsFurther work merged more = (more.job.plan ≡ work.job.plan) × (more.merged ≡ shown (work.merged + merged)) × (more.job.selection.snapshots ≡ work.job.selection.snapshots) × (more.version ≡ work.version)
 
--- A compaction was under way. As many entries more of its inputs came as the budget has, one for 0, and it is under way still, with the
--- tables as they were; or all came, and its outputs are in the place of its inputs.
+-- A compaction was under way. As many entries more of its inputs came as the budget has, one for 0,
+-- and it is under way still, with the tables as they were; or all came, and its outputs are in the
+-- place of its inputs.
 pub record GoesOn {K : Type 0} {g : _} (budget : ℕ) (before after : OpenDb K g) : Type 0 where
   pub work : OpenJob K g
   pub was : before.job ≡ Some work
   pub on : MatchOption after.job (ReplacesInputs work.job.plan before.tables after.tables) (λ more. IsFurther work (max budget 1) more × (after.tables ≡ before.tables))
 
--- None was, and the sealed memory table has become a table of level 0, unless it was empty.
+-- None was, and the sealed memtable has become a table of level 0, unless it was empty.
 pub record WritesTable {K : Type 0} {g : _} (before after : OpenDb K g) : Type 0 where
   pub idle : before.job ≡ None
   pub was : IsSome before.memory.sealed
@@ -51,7 +53,8 @@ pub record WritesTable {K : Type 0} {g : _} (before after : OpenDb K g) : Type 0
   pub still : after.job ≡ None
   pub table : (sealed_inserts before.memory ≡ []) ⊎ ((table : TableFile) × ListsSameTables (inserted (record { level = 0; table = table }) before.tables) after.tables)
 
--- Nor was anything sealed. The memory table is, and an empty one has taken its place, with a log of its own.
+-- Nor was anything sealed. The memtable is, and an empty one has taken its place, with a log of
+-- its own.
 pub record SealsMemory {K : Type 0} {g : _} (before after : OpenDb K g) : Type 0 where
   pub idle : before.job ≡ None
   pub none : before.memory.sealed ≡ None
@@ -62,7 +65,7 @@ pub record SealsMemory {K : Type 0} {g : _} (before after : OpenDb K g) : Type 0
   pub log : after.log.number ≡ before.directory.numbers.next
   pub begins : after.log.end ≡ 0
 
--- No compaction is under way, nothing is sealed, and the memory table has fewer bytes than it may.
+-- No compaction is under way, nothing is sealed, and the memtable has fewer bytes than it may.
 pub record IsAtEase {K : Type 0} {g : _} (options : OptionValues) (db : OpenDb K g) : Type 0 where
   pub idle : db.job ≡ None
   pub none : db.memory.sealed ≡ None
@@ -72,8 +75,9 @@ pub record IsAtEase {K : Type 0} {g : _} (options : OptionValues) (db : OpenDb K
 abbrev pub WantsCompaction : {K : Type 0} {g : _} → OptionValues → OpenDb K g → ℕ → Type 0
 WantsCompaction options db level = (level < 6) × Needs options.level0_files options.base_bytes db.tables level
 
--- The compaction that is most wanted was begun. So many entries of its inputs came, and it keeps the views that are read at, and no
--- others; or all came, and its outputs are in the place of its inputs.
+-- The compaction that is most wanted was begun. So many entries of its inputs came, and it keeps
+-- the views that are read at, and no others; or all came, and its outputs are in the place of its
+-- inputs.
 pub record BeginsJob {K : Type 0} {g : _} (cmp : Cmp) (options : OptionValues) (budget : ℕ) (before after : OpenDb K g) : Type 0 where
   pub plan : JobPlan
   pub picked : IsPicked cmp options.level0_files options.base_bytes (version_of before) plan
@@ -89,8 +93,8 @@ pub record HasNoWork {K : Type 0} {g : _} (options : OptionValues) (db : OpenDb 
   pub ease : IsAtEase options db
   pub unwanted : (level : ℕ) → WantsCompaction options db level → ⊥
 
--- Work goes on with the compaction under way; writes a table where one is sealed; seals the memory table where that is full; begins the
--- compaction that is most wanted; and else there is none.
+-- Work goes on with the compaction under way; writes a table where one is sealed; seals the
+-- memtable where that is full; begins the compaction that is most wanted; and else there is none.
 abbrev pub DoesWork : {K : Type 0} {g : _} → Cmp → OptionValues → ℕ → OpenDb K g → OpenDb K g → Result Progress DbError → Type 0
 DoesWork cmp options budget before after (Ok progress.Worked) =
     GoesOn budget before after ⊎ WritesTable before after ⊎ ((options.write_buffer ≤ size_of before.memory.current.inserts) × SealsMemory before after) ⊎ Begins cmp options budget before after
@@ -103,8 +107,9 @@ DoesWork cmp options budget before after (Err e) = Unit {0}
 abbrev pub numbers_of : DirectoryState → LiveNumbers
 numbers_of state = record { manifest_number = state.manifest.number; log_number = state.first_log; previous_log_number = state.previous_log }
 
--- `CURRENT`, the lock, the MANIFEST, a log that the directory reads, or a table of the version, of that of an open iterator, or of the
--- compaction under way; of one that has a file under both of its names the one that is read
+-- `CURRENT`, the lock, the MANIFEST, a log that the directory reads, or a table of the version, of
+-- that of an open iterator, or of the compaction under way; of one that has a file under both of
+-- its names the one that is read
 abbrev pub IsLiveIn : {K : Type 0} {g : _} → Files → OpenDb K g → FileName → Type 0
 IsLiveIn files db file = IsLiveAmong files (numbers_of db.directory) (λ number. IsTableUsed db.tables db.job db.iterators number) file
 
@@ -112,8 +117,8 @@ IsLiveIn files db file = IsLiveAmong files (numbers_of db.directory) (λ number.
 abbrev pub HasLiveOnly : {K : Type 0} {g : _} → Files → OpenDb K g → Type 0
 HasLiveOnly files db = (file : FileName) → IsFileName file → contains_key files (name_of file) ≡ true → IsLiveIn files db file
 
--- Each file, and what of it is synced, is as before; or it is of a known shape and not live, and is gone. So live files and files of
--- other programs stay.
+-- Each file, and what of it is synced, is as before; or it is of a known shape and not live, and is
+-- gone. So live files and files of other programs stay.
 abbrev pub LosesDead : {K : Type 0} {g : _} → Facts → Facts → OpenDb K g → Type 0
 LosesDead old new db = (name : List ℕ) → LeavesFile old new name ⊎ (IsDead (IsLiveIn old.files db) name × (get new.files name ≡ None))
 

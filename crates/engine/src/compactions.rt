@@ -1,5 +1,5 @@
-//! Compactions of a whole level, or of all tables, in one call (LevelDB's db/db_impl.cc, DBImpl::CompactRange and
-//! DBImpl::TEST_CompactRange).
+//! Compactions of a whole level, or of all tables, in one call (LevelDB's db/db_impl.cc,
+//! DBImpl::CompactRange and DBImpl::TEST_CompactRange).
 
 ghost use Rattle.std.specs.Prelude.{◌≡◌, ◌<◌, None, Some, IsSome, false, MatchOption, OnOk};
 ghost use Rattle.ikey.specs.Orders.{order_of};
@@ -36,8 +36,9 @@ impl<K: KeyOrder> DbState<K> {
     ghost use Rattle.directory_writes.specs.Replacing.{ReplacesInputs};
     ghost use Rattle.versions.specs.Plans.{IsPlanOf, IsWholePlan};
 
-    /// Brings the compaction under way to its end, and then compacts all tables of a level, with those of the next one whose keys meet
-    /// theirs, into the next one. It moves no compact pointer. BadLevel: the level isn't one of 0 to 5.
+    /// Ends the compaction under way, and then compacts all tables of a level into the next one,
+    /// with the tables there whose keys overlap theirs. It moves no compact pointer. BadLevel: the
+    /// level isn't one of 0 to 5.
     pub fn compact_level<S: Store>(
         &mut self,
         alloc: Global,
@@ -51,11 +52,12 @@ impl<K: KeyOrder> DbState<K> {
         ensures breaks { self.old.broken ≡ false → BreaksLent S.facts source.old source.new self.new result }
         ensures caused { IsCausedIn (level_cause
             (open_status no_ids (open_db source.old.memory self.old)) level) source.old.tables.store source.new.tables.store result }
-        // Done or refused, over any store: no entry of a memory table is touched.
+        // Whether it succeeds or fails, over any store: no entry of a memtable is touched.
         ensures memory { LeavesMemories source.old.memory source.new.memory }
         ensures emptied { OnOk result (IsLevelEmpty level (open_db source.new.memory self.new)) }
         ensures moves { OnOk result (MovesLevel K.cmp level (open_db source.old.memory self.old) (open_db source.new.memory self.new)) }
-        // While the store is faithful, each entry that must be kept is in what its tables have become, and no other.
+        // While the store is faithful, each entry that must be kept is in what its tables have
+        // become, and no other.
         ensures merges { OnOk result (MergesLevel (order_of K.name K.cmp) level (seen_of S.facts source.old) (seen_of S.facts source.new)
             (open_db source.old.memory self.old) (open_db source.new.memory self.new)) }
         ensures stops { KeepsLent (order_of K.name K.cmp) S.facts source.old self.old source.new }
@@ -69,8 +71,8 @@ impl<K: KeyOrder> DbState<K> {
         self.compact_tables_of(alloc, source, options, level)
     }
 
-    /// Brings the compaction under way to its end, writes what is in memory into tables, and then compacts all tables into the last
-    /// level. It moves no compact pointer.
+    /// Ends the compaction under way, writes what is in memory into tables, and then compacts all
+    /// tables into the last level. It moves no compact pointer.
     pub fn compact_all<S: Store>(
         &mut self,
         alloc: Global,
@@ -176,7 +178,7 @@ impl<K: KeyOrder> DbState<K> {
         self.flush(alloc, source, options)
     }
 
-    // Writes the sealed memory table, where there is one, into a table.
+    // Writes the sealed memtable, if there is one, into a table.
     fn write_sealed<S: Store>(
         &mut self,
         alloc: Global,
@@ -279,7 +281,8 @@ impl<K: KeyOrder> DbState<K> {
             (seen_of S.facts source.new) (open_db source.old.memory self.old) (open_db source.new.memory self.new)) }
         ensures stops { KeepsLent (order_of K.name K.cmp) S.facts source.old self.old source.new }
     {
-        // A loop without a measure: as many turns as 64 bits count, and out of memory behind them, which no run reaches.
+        // A loop without a measure: at most as many turns as 64 bits count, and then out of memory.
+        // No run reaches that.
         for _ in 0..u64::MAX {
             if self.step_job(alloc, source, 1)? {
                 return Ok(());

@@ -22,8 +22,8 @@ use recover::{distinct_law, one_manifest};
 use std::alloc::Global;
 use store::Store;
 
-/// Law: there is a first machine of each directory that is empty or consistent, and so of each that `recover::check` finds good; and one that
-/// allows for damage.
+/// Proves that each directory that is empty or consistent has a first machine, and so has each that
+/// `recover::check` finds good. Each directory has one that allows for damage.
 pub fn there_is_a_first()
     ensures { FirstLaw }
 {
@@ -32,23 +32,24 @@ pub fn there_is_a_first()
     one_manifest();
 }
 
-/// Law: files come from themselves, as undamaged.
+/// Proves that files come from themselves, as undamaged.
 pub fn files_come_from_themselves()
     ensures { (order : Order) (damaged : Bool) (files : Files) → ComesFrom order damaged files files }
 {}
 
-// Law: a new session over these files may be in it.
+// Proves that a new session over these files may be in it.
 fn starts()
     ensures { StartsLaw }
 {}
 
-// Law: the files of a session that is closed are those of the machine at which it ended.
+// Proves that the files of a session that is closed are those of the machine at which it ended.
 fn ends()
     ensures { EndsLaw }
 {}
 
-/// Runs commands over a store in which no database is open, and puts their answers behind those that `sink` has. A database
-/// that is open at the end is closed. Where there is no memory for the answers, nothing is done.
+/// Runs commands over a store in which no database is open, and appends their answers to `sink`. A
+/// database that is open at the end is closed. If there is no memory for the answers, nothing is
+/// done.
 pub fn run_over<S: Store, K: KeyOrder>(
     alloc: Global,
     store: S,
@@ -58,13 +59,14 @@ pub fn run_over<S: Store, K: KeyOrder>(
 ) -> (Result<(), DbError>, S)
     ensures headline { OnOk result.0 ((answers : List Answer) × (sink.new.items ≡ sink.old.items ++ answers)
         × Headline (order_of K.name K.cmp) (S.facts store) (S.facts result.1) ops.now answers) }
-    // Over damaged tables it is that of each undamaged directory from which they may come.
+    // Over damaged tables it is the headline of each undamaged directory from which they may come.
     ensures over_damage { OnOk result.0 ((answers : List Answer) × (sink.new.items ≡ sink.old.items ++ answers)
         × OverDamage (order_of K.name K.cmp) (S.facts store) (S.facts result.1) ops.now answers) }
-    // A stop at any moment of it leaves what the commands that were answered by then have accepted.
+    // A process crash at any moment of it leaves what the commands that were answered by then had
+    // written.
     ensures stops { OnOk result.0 ((answers : List Answer) × (sink.new.items ≡ sink.old.items ++ answers)
         × StopsRun (order_of K.name K.cmp) (S.facts store) (S.facts result.1) ops.now answers) }
-    // So does a loss of power the first of it, where the device has the files at its begin.
+    // A power loss leaves a prefix of that, if the files at its begin are durable.
     ensures loses { OnOk result.0 ((answers : List Answer) × (sink.new.items ≡ sink.old.items ++ answers)
         × LosesRun (order_of K.name K.cmp) (S.facts store) (S.facts result.1) ops.now answers) }
     ensures refused { OnErr result.0 ((sink.new.items ≡ sink.old.items) × LeavesStore (S.facts store) (S.facts result.1)) }

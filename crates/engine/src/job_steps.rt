@@ -1,5 +1,5 @@
-//! Compactions in steps: the one that is most wanted is begun, and goes on by so many entries a call (LevelDB's db/db_impl.cc,
-//! DBImpl::BackgroundCompaction).
+//! Compactions in steps: the one that is most wanted is begun, and goes on by so many entries a
+//! call (LevelDB's db/db_impl.cc, DBImpl::BackgroundCompaction).
 
 ghost use Rattle.std.specs.Prelude.{◌≡◌, ◌∷◌, ℕ, max, None, Some, IsSome, IsTrue};
 ghost use Rattle.std.specs.Prelude.{false, true, Contains, MatchBool, MatchOption, IfOk, Ok, OnOk};
@@ -41,7 +41,8 @@ impl<K: KeyOrder> DbState<K> {
     ghost use Rattle.memtables.specs.Places.{LeavesMemories};
     ghost use Rattle.versions.specs.Plans.{IsPlanOf, IsWholePlan};
 
-    /// Begins the compaction that is most wanted, and goes on with it by so many entries. Idle where none is wanted.
+    /// Begins the compaction that is most wanted, and merges up to `budget` entries of it. Idle if
+    /// none is wanted.
     pub fn compact<S: Store>(
         &mut self,
         alloc: Global,
@@ -123,8 +124,9 @@ impl<K: KeyOrder> DbState<K> {
         Ok(())
     }
 
-    /// Goes on with the compaction under way by so many entries, one for 0, and ends it where all came: whether it did. Where it is
-    /// refused it is given up, and its inputs stay. The database is broken where a write of the store failed, and not where a read did.
+    /// Merges up to `budget` entries of the compaction under way (one for 0), and ends it with the
+    /// last one. Returns whether it ended. If it fails it is given up, and its inputs stay. The
+    /// database breaks if a write of the store failed, but not if only a read did.
     pub fn step_job<S: Store>(
         &mut self,
         alloc: Global,
@@ -210,7 +212,8 @@ impl<K: KeyOrder> DbState<K> {
         self.directory.manifest.end = installed.manifest_end;
     }
 
-    // The sequences that a compaction keeps the views of, rising: those of the live snapshots, and the last one used.
+    // The sequence numbers whose views a compaction keeps, rising: those of the live snapshots, and
+    // the last one used.
     fn sequences(&self, alloc: Global, last: u64) -> Result<Vec<u64>, AllocError>
         ensures rising { IfOk result (λ sequences. IsNonDecreasing sequences.items) }
         ensures last { IfOk result (λ sequences. Contains sequences.items last) }

@@ -10,7 +10,7 @@ use std::alloc::Global;
 use store::Store;
 use table_access::Tables;
 
-/// A store with nothing beside it. It takes no memory.
+/// Makes sources of a store with nothing kept beside it. It takes no memory.
 pub fn sources_over<K: KeyOrder, S: Store>(alloc: Global, store: S) -> Sources<K, S>
     ensures { result.tables.store ≡ store }
 {
@@ -20,7 +20,7 @@ pub fn sources_over<K: KeyOrder, S: Store>(alloc: Global, store: S) -> Sources<K
     }
 }
 
-/// Keeps nothing beside the store any more.
+/// Forgets all that is kept beside the store.
 pub fn forget<K: KeyOrder, S: Store>(alloc: Global, source: &mut Sources<K, S>)
     ensures store { source.new.tables.store ≡ source.old.tables.store }
     ensures tables { (source.new.tables.tables.tables ≡ []) × (source.new.tables.blocks.blocks ≡ []) }
@@ -30,7 +30,7 @@ pub fn forget<K: KeyOrder, S: Store>(alloc: Global, source: &mut Sources<K, S>)
     source.memory = MemoryTables::empty(alloc);
 }
 
-/// The store alone.
+/// Returns the store alone.
 pub fn store_in<K: KeyOrder, S: Store>(source: Sources<K, S>) -> S
     ensures { result ≡ source.tables.store }
 {

@@ -47,10 +47,10 @@ use std::collections::BTreeMap;
 use store::{Store, StoreError};
 use table_access::{empty_is_sound, sound_stays};
 
-/// Opens the database of a store: takes the lock, reads what is there, writes a new MANIFEST, `CURRENT` and a new log, has the device keep
-/// the logs that it found, and removes the files that aren't live. Where one can't be removed, or the store can't list them, they are left
-/// for the next time, and the open is accepted. A refusal releases the lock, and removes nothing. Nothing that was kept of tables before
-/// stays.
+/// Opens the database of a store: takes the lock, reads what is there, writes a new MANIFEST,
+/// `CURRENT` and a new log, syncs the logs that it found, and removes the obsolete files. If one
+/// can't be removed, or the store can't list them, they are left for the next time, and the open
+/// succeeds. An error releases the lock. Nothing that was kept of tables before stays.
 pub fn open_store<K: KeyOrder, S: Store>(
     alloc: Global,
     source: &mut Sources<K, S>,
@@ -66,20 +66,22 @@ pub fn open_store<K: KeyOrder, S: Store>(
     ensures touches { OpensStore (S.facts source.old.tables.store) (S.facts source.new.tables.store) result }
     ensures tells { IsTrue (S.facts source.new.tables.store).faithful
         → Tells (order_of K.name K.cmp) (S.facts source.old.tables.store).files result }
-    // All files are live then, unless one couldn't be removed.
+    // All files are in use then, unless one couldn't be removed.
     ensures tidy { IfOk result (IsTidy (S.facts source.old.tables.store) (S.facts source.new.tables.store) source.new.memory) }
-    // A stop in its middle leaves files that stand for what they did.
+    // A process crash in its middle leaves files that stand for what they did.
     ensures stops { IsTrue (S.facts source.new.tables.store).faithful → (ids : Ids) (m : Machine)
         → m.damaged ≡ false → StandsClosed (order_of K.name K.cmp) (S.facts source.old.tables.store) ids m
         → LeavesOnly (S.facts source.old.tables.store) (S.facts source.new.tables.store) (λ files. MeansAccepted (order_of K.name K.cmp) files m) }
-    // So does a loss of power, where the device has the names that were there, and it cuts no file short that was.
+    // So does a power loss, if the names that were there are durable and it truncates none of those
+    // files.
     ensures loses { IsTrue (S.facts source.new.tables.store).faithful → (ids : Ids) (m : Machine)
         → m.damaged ≡ false → StandsClosed (order_of K.name K.cmp) (S.facts source.old.tables.store) ids m
         → ((name : List ℕ) → StaysNamed (S.facts source.old.tables.store) name)
         → LosesMeaning (order_of K.name K.cmp) (S.facts source.old.tables.store) (S.facts source.new.tables.store) m }
-    // And where each loss in front of it leaves the first of the batches, so does each in its middle.
+    // Suppose each power loss before it leaves a prefix of the batches. Then so does each in its
+    // middle.
     ensures loses_on { (ids : Ids) → OpenLosesOn (order_of K.name K.cmp) (S.facts source.old.tables.store) (S.facts source.new.tables.store) ids }
-    // The device has the logs that it found.
+    // The logs that it found are durable.
     ensures kept { IfOk result (λ state. IsTrue (S.facts source.new.tables.store).faithful
         → HasKeptLogs (S.facts source.new.tables.store) state.directory) }
     ensures fresh { IfOk result (λ state. IsFresh (open_db source.new.memory state)) }
@@ -110,8 +112,8 @@ fn take_lock<S: Store>(store: &mut S) -> Result<(), DbError>
     }
 }
 
-// Opens it, while the lock is held, has the device keep the logs that it found, since who wrote them may not have, and removes the files that
-// aren't live.
+// Opens it, while the lock is held. Syncs the logs that it found, since their writer may not have,
+// and removes the obsolete files.
 fn open_and_clean<K: KeyOrder, S: Store>(
     alloc: Global,
     source: &mut Sources<K, S>,

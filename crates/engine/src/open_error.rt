@@ -1,4 +1,4 @@
-//! A refused open, which gives the store back.
+//! A refused open, which returns the store.
 
 ghost use Rattle.std.specs.Prelude.{◌≡◌};
 
@@ -6,8 +6,9 @@ use coding::DbError;
 use std::error::Error;
 use std::fmt;
 
-/// Why no database was opened, and the store in which it was to be. In a function that answers a `DbError` or any error, `?` keeps the
-/// reason and lets the store go, which gives its lock back; a `match` has both.
+/// Holds why no database was opened, and the store in which it was to be. In a function that
+/// returns a `DbError` or any error, `?` keeps the reason and drops the store, which releases its
+/// lock. A `match` has both.
 #[derive(Drop)]
 pub struct OpenError<S> {
     /// Why it wasn't opened.

@@ -12,28 +12,29 @@ use ikey::KeyOrder;
 use std::alloc::Global;
 use store::Store;
 
-// How many entries of work each written operation brings along: it is merged a few times on its way down the levels. Where level 0 has
-// twice as many tables as bring a compaction about it brings more, as LevelDB lets writes wait a little there (its db/dbformat.h,
-// kL0_SlowdownWritesTrigger).
+// How many entries of work each written operation adds, since an entry is merged a few times on its
+// way down the levels. An operation adds more if level 0 has twice as many tables as start a
+// compaction: LevelDB slows writes down there (its db/dbformat.h, kL0_SlowdownWritesTrigger).
 const SHARE: u32 = 6;
 
 const LARGE_SHARE: u32 = 24;
 
-// Operations bring their work along by groups of so many, or of so large a part of a memory table, since each piece of work lists the folder,
-// which costs more than a write.
+// Operations add their work by groups of so many, or of this part of a memtable. Each piece of work
+// lists the folder, which costs more than a write.
 const GROUP: u64 = 64;
 
 const PARTS: u64 = 16;
 
-// Of more operations than this the others bring none along.
+// Caps the operations that are counted when a batch's share of the work is computed.
 const MOST_OPERATIONS: usize = 1 << 20;
 
-/// Whether work keeps up with what is written.
+/// Tells whether work keeps up with what is written.
 #[derive(Clone, Copy, Debug, PartialEq, Eq)]
 pub enum Pace {
-    /// The memory table that takes writes has fewer than `write_buffer` bytes, and level 0 at most three times `level0_files` tables.
+    /// The memtable that takes writes has fewer than `write_buffer` bytes, and level 0 at most
+    /// three times `level0_files` tables.
     KeepsUp,
-    /// Work was refused for this. What was written is there.
+    /// Work failed for this. What was written is there.
     Refused(DbError),
 }
 
@@ -48,8 +49,9 @@ impl<S: Store, K: KeyOrder> Db<S, K> {
     ghost use Rattle.engine.specs.declared.pace.Pace.TheVariants.{KeepsUp, Refused};
     ghost use Rattle.versions.specs.Levels.{tables_at};
 
-    /// Works until there is nothing left to do, by pieces of so many entries: no compaction is under way then, no level wants one (so level 0
-    /// has fewer files than `level0_files`), and memory has less than `write_buffer` bytes. What was done before a refusal stays done.
+    /// Works until nothing is left to do, by pieces of so many entries. Then no compaction is under
+    /// way, no level wants one (so level 0 has fewer files than `level0_files`), and memory has
+    /// less than `write_buffer` bytes. What was done before an error stays done.
     pub fn settle(&mut self, alloc: Global, budget: u32) -> Result<(), DbError>
         ensures step { FollowsDb (order_of K.name K.cmp) S.facts self.old self.new
             (λ m n. MatchResult result (λ done. OnlyDraws m n) (λ e. OnlyWorks m n)) }
@@ -58,7 +60,7 @@ impl<S: Store, K: KeyOrder> Db<S, K> {
         ensures allowed { MatchResult result (λ done. Unit {0}) MayRefuseWork }
         ensures ids { db_ids_of self.new ≡ db_ids_of self.old }
         ensures opening { KeepsOpening self.old self.new }
-        // A stop in its middle leaves what was accepted, and a loss of power the first of it.
+        // A process crash in its middle leaves what was written, and a power loss a prefix of it.
         ensures stops { DbStops (order_of K.name K.cmp) S.facts self.old self.new }
         ensures loses { DbLoses (order_of K.name K.cmp) S.facts self.old self.new }
         ensures found { DbKeepsFound (order_of K.name K.cmp) S.facts self.old self.new }
@@ -73,7 +75,7 @@ impl<S: Store, K: KeyOrder> Db<S, K> {
         Err(DbError::OutOfMemory)
     }
 
-    /// How many tables a level has, from 0 to 6, or `None` for another one.
+    /// Returns how many tables a level has, from 0 to 6, or `None` for another one.
     pub fn tables_in(&self, level: u32) -> Option<usize>
         ensures { result ≡ (if nat_lt level 7 then Some (length (tables_at level (open_by self.now).tables)) else None) }
     {
@@ -83,11 +85,12 @@ impl<S: Store, K: KeyOrder> Db<S, K> {
         Some(self.state.version.level(level).len())
     }
 
-    /// Writes a batch, as `write` does, and then does its share of the work: behind each 64 operations, or each sixteenth of
-    /// `write_buffer`, six entries of it for each of these, or more where work lags behind, and as much more as it takes until work
-    /// keeps up. So a caller needs no `work` beside it, memory and level 0 are bounded, and a call takes longer instead (LevelDB's
-    /// db/db_impl.cc, DBImpl::MakeRoomForWrite, lets it wait). Refused as `write` is; that work was refused behind a batch that was
-    /// written is said by the `Pace`.
+    /// Writes a batch, as `write` does, and then does its share of the work. The share is done
+    /// after each 64 operations, or each sixteenth of `write_buffer`: six entries for each
+    /// operation, more if work lags, and whatever else it takes until work keeps up. So a caller
+    /// needs no `work` beside it, and memory and level 0 are bounded; the call takes longer
+    /// instead. (LevelDB's db/db_impl.cc, DBImpl::MakeRoomForWrite, waits there.) It fails as
+    /// `write` does; if only the work fails, the batch is written and the `Pace` says so.
     pub fn write_and_work(
         &mut self,
         alloc: Global,
@@ -101,7 +104,8 @@ impl<S: Store, K: KeyOrder> Db<S, K> {
         ensures refused { (error : DbError) → result ≡ Ok (Refused error) → MayRefuseWork error }
         ensures ids { db_ids_of self.new ≡ db_ids_of self.old }
         ensures opening { KeepsOpening self.old self.new }
-        // A stop in its middle leaves what was accepted, with the batch as a whole or without it, and a loss of power the first of it.
+        // After a process crash in its middle the files hold what was written, with the batch as a
+        // whole or without it. After a power loss they hold a prefix of that.
         ensures stops { DbStopsWrite (order_of K.name K.cmp) S.facts batch.now self.old self.new }
         ensures loses { DbLosesWrite (order_of K.name K.cmp) S.facts batch.now self.old self.new }
         ensures found { DbKeepsFound (order_of K.name K.cmp) S.facts self.old self.new }
@@ -116,8 +120,9 @@ impl<S: Store, K: KeyOrder> Db<S, K> {
         Ok(self.keep_up(alloc, share))
     }
 
-    /// Works by pieces of so many entries, one at least, until work keeps up with what was written. A memory table that is sealed is written
-    /// into a table in the same call: the next write would have the device keep its log otherwise.
+    /// Works by pieces of so many entries, one at least, until work keeps up with what was written.
+    /// A memtable that is sealed is written into a table in the same call: otherwise the next write
+    /// would have to sync its log.
     pub fn keep_up(&mut self, alloc: Global, budget: u32) -> Pace
         ensures step { FollowsDb (order_of K.name K.cmp) S.facts self.old self.new (WorksAtPace result) }
         // Over any store:
@@ -143,7 +148,7 @@ impl<S: Store, K: KeyOrder> Db<S, K> {
         Pace::Refused(DbError::OutOfMemory)
     }
 
-    // Whether it has kept up, and no memory table waits for its table.
+    // Whether it has kept up, and no memtable waits for its table.
     fn can_rest(&self) -> bool
         ensures { MatchBool result (HasKeptUp (db_options_of self.now) (open_by self.now) × ((open_by self.now).memory.sealed ≡ None)) (Unit {0}) }
     {
@@ -162,7 +167,8 @@ impl<S: Store, K: KeyOrder> Db<S, K> {
         self.state.version.level(0).len() as u64 <= 3 * self.options.level0_files()
     }
 
-    // Whether a group ends among the operations that were written last, so many, in front of which the memory table had so many bytes.
+    // Whether a group ends among the operations that were written last, so many. Before them the
+    // memtable had so many bytes.
     fn ends_a_group(&self, operations: usize, before: u64) -> bool {
         let last = self.source.memory.last();
         let part = (self.options.write_buffer() / PARTS).max(1);
@@ -170,7 +176,7 @@ impl<S: Store, K: KeyOrder> Db<S, K> {
             || before / part != self.source.memory.size() as u64 / part
     }
 
-    // How many entries of work so many operations bring along, and at least a group.
+    // How many entries of work so many operations add, and at least a group.
     fn share_of(&self, operations: usize) -> u32 {
         let counted = operations.clamp(GROUP as usize, MOST_OPERATIONS) as u32;
         if self.state.version.level(0).len() as u64 >= 2 * self.options.level0_files() {

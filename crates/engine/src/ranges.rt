@@ -13,18 +13,19 @@ use std::alloc::{AllocError, Global};
 use std::cmp::Ordering;
 use store::Store;
 
-/// Which keys, in the order of a database: from one on, and in front of another (LevelDB's include/leveldb/db.h, `Range`). Where the one
-/// isn't in front of the other there are none.
+/// Holds a range of keys, in the order of a database: from one on, and before another (LevelDB's
+/// include/leveldb/db.h, `Range`). If the first doesn't come before the second, the range has no
+/// keys.
 #[derive(Debug, Drop)]
 pub struct KeyRange {
-    /// The first key that it has; `None` where there is none in front of it.
+    /// The first key of the range; `None`: it has no lower end.
     pub from: Option<Bytes>,
-    /// The first key behind it; `None` where there is none.
+    /// The first key after the range; `None`: it has no upper end.
     pub to: Option<Bytes>,
 }
 
 impl KeyRange {
-    /// All keys.
+    /// Returns the range of all keys.
     pub fn all() -> Self
         ensures { (result.from ≡ None) × (result.to ≡ None) }
     {
@@ -34,7 +35,7 @@ impl KeyRange {
         }
     }
 
-    /// The keys from this one on.
+    /// Returns the range of the keys from this one on.
     pub fn starting_at(alloc: Global, from: &[u8]) -> Result<Self, AllocError>
         ensures { IfOk result (λ keys. (keys.from ≡ Some from.now) × (keys.to ≡ None)) }
     {
@@ -45,7 +46,7 @@ impl KeyRange {
         })
     }
 
-    /// The keys in front of this one.
+    /// Returns the range of the keys before this one.
     pub fn ending_before(alloc: Global, to: &[u8]) -> Result<Self, AllocError>
         ensures { IfOk result (λ keys. (keys.from ≡ None) × (keys.to ≡ Some to.now)) }
     {
@@ -56,7 +57,7 @@ impl KeyRange {
         })
     }
 
-    /// The keys from one on that come before the other.
+    /// Returns the range of the keys from one on that come before the other.
     pub fn between(alloc: Global, from: &[u8], to: &[u8]) -> Result<Self, AllocError>
         ensures { IfOk result (λ keys. (keys.from ≡ Some from.now) × (keys.to ≡ Some to.now)) }
     {
@@ -68,7 +69,8 @@ impl KeyRange {
         })
     }
 
-    /// The keys that begin so, in the order of bytes: for a database of `ikey::Bytewise`.
+    /// Returns the range of the keys that begin so, in the order of bytes: for a database of
+    /// `ikey::Bytewise`.
     pub fn with_prefix(alloc: Global, prefix: &[u8]) -> Result<Self, AllocError>
         ensures { IfOk result (λ keys. (key : List ℕ) → All (λ byte. byte < 256) key →
             IsTrue (is_in_range (slice_cmp nat_cmp) keys key) ↔ BeginsWith prefix.now key) }
@@ -84,13 +86,13 @@ impl KeyRange {
     }
 }
 
-// Law: a key begins so where it isn't below the prefix, and comes before its end.
+// Proves that a key begins so if it isn't below the prefix, and comes before its end.
 fn prefix_law()
     ensures { (prefix key : List ℕ) → All (λ byte. byte < 256) key →
         IsTrue (is_in_range (slice_cmp nat_cmp) (record { from = Some prefix; to = prefix_end prefix }) key) ↔ BeginsWith prefix key }
 {}
 
-// What comes first behind all keys that begin so, in the order of bytes: `None` where nothing does.
+// What comes first after all keys that begin so, in the order of bytes: `None` if nothing does.
 fn behind_prefix(alloc: Global, prefix: &[u8]) -> Result<Option<Bytes>, AllocError>
     ensures { IfOk result (λ end. end ≡ prefix_end prefix.now) }
 {
@@ -115,7 +117,7 @@ fn raised(alloc: Global, front: &[u8], last: u8) -> Result<Bytes, AllocError>
     Ok(Bytes::from_vec(end))
 }
 
-/// How far a walk has come.
+/// Tells how far an iteration has come.
 #[derive(Clone, Copy, Debug, PartialEq, Eq)]
 pub enum Stage {
     /// It hasn't begun.
@@ -126,8 +128,9 @@ pub enum Stage {
     Over,
 }
 
-/// A walk over the pairs of a range. The database keeps an iterator for it until `Db::range_end` takes it back: it can't be dropped,
-/// so that a program which forgets one isn't compiled.
+/// Holds an iteration over the pairs of a range. The database keeps an iterator for it until
+/// `Db::range_end` takes it back. It can't be dropped, so that a program which forgets one isn't
+/// compiled.
 #[derive(Debug)]
 pub struct RangeWalk {
     id: u64,
@@ -158,7 +161,7 @@ impl RangeWalk {
         }
     }
 
-    // Takes the pair to which its iterator was moved, where that is one of the range.
+    // Takes the pair to which its iterator was moved, if that is one of the range.
     fn settle<K: KeyOrder>(&mut self, found: Option<(Bytes, Bytes)>) -> Option<(Bytes, Bytes)>
         ensures { Settles K.cmp self.old found self.new result }
     {
@@ -196,8 +199,8 @@ impl<S: Store, K: KeyOrder> Db<S, K> {
     ghost use Rattle.engine.specs.Ranges.{Begins, Fills, MayRefuseScan, RefusesScan, SameWalk, Scans, Steps, next_motion};
     ghost use Rattle.engine.specs.StandsDb.{FollowsDb, KeepsOpening, db_ids_of, db_store_of, open_by};
 
-    /// Begins a walk over the pairs of a range, as they are now or at a snapshot. It takes an iterator, and goes on seeing the same
-    /// pairs whatever is written.
+    /// Begins a walk over the pairs of a range, as they are now or at a snapshot. It takes an
+    /// iterator, and goes on seeing the same pairs whatever is written.
     pub fn range(
         &mut self,
         alloc: Global,
@@ -224,7 +227,8 @@ impl<S: Store, K: KeyOrder> Db<S, K> {
         }
     }
 
-    /// The next pair of a walk, or None where all came. A refusal leaves the walk where it was: the next call tries the same pair again.
+    /// Returns the next pair of an iteration, or None after the last. An error leaves the iteration
+    /// where it was: the next call tries the same pair again.
     pub fn range_next(
         &mut self,
         alloc: Global,
@@ -250,7 +254,7 @@ impl<S: Store, K: KeyOrder> Db<S, K> {
         }
     }
 
-    // Moves the iterator of a walk: to the first pair that may be in its range, or to the next.
+    // Moves the iteration's iterator: to the first pair that may be in its range, or to the next.
     fn move_walk(
         &mut self,
         alloc: Global,
@@ -274,8 +278,8 @@ impl<S: Store, K: KeyOrder> Db<S, K> {
         }
     }
 
-    /// Puts the next pairs of a walk behind those that `sink` has, and no more than `limit`. Those that came before a refusal are there
-    /// too, and the walk stands behind them.
+    /// Appends the next pairs of an iteration to `sink`, no more than `limit`. If it fails, the
+    /// pairs that came before the error are there too, and the iteration goes on after them.
     pub fn range_fill(
         &mut self,
         alloc: Global,
@@ -306,7 +310,8 @@ impl<S: Store, K: KeyOrder> Db<S, K> {
         Ok(())
     }
 
-    /// Ends a walk, and gives up its iterator. Nothing is refused: what a broken database keeps for it goes when it is closed.
+    /// Ends an iteration, and releases its iterator. It never fails: what a broken database keeps
+    /// for it goes when it is closed.
     pub fn range_end(&mut self, walk: RangeWalk)
         ensures step { FollowsDb (order_of K.name K.cmp) S.facts self.old self.new
             (λ m n. (answer : Answer) × Drops m walk.id answer n) }
@@ -324,8 +329,8 @@ impl<S: Store, K: KeyOrder> Db<S, K> {
         let _ = self.iter_release(id);
     }
 
-    /// The pairs of a range, as they are now or at a snapshot, in their order and no more than `limit`: for a range of which not too much
-    /// is asked, since all of them are in memory at once. The next ones are those of the range that starts behind the last key.
+    /// Returns the pairs of a range, now or at a snapshot, in their order and no more than `limit`.
+    /// All of them are in memory at once. To go on, scan the range that starts after the last key.
     pub fn scan(
         &mut self,
         alloc: Global,

@@ -1,4 +1,4 @@
-//! Which tables and memory tables an open database still reads.
+//! Which tables and memtables an open database still reads.
 
 ghost use Rattle.std.specs.Prelude.{MatchBool};
 ghost use Rattle.engine.specs.InUse.{AnyIterator, IsJobTable, IsMemoryUsed, IsTableUsed};
@@ -62,7 +62,7 @@ fn is_table_read<K: KeyOrder>(iterators: &BTreeMap<u64, Scan<K>>, number: u64) -
     false
 }
 
-// Whether an open iterator reads the memory table of this generation.
+// Whether an open iterator reads the memtable of this generation.
 fn is_memory_read<K: KeyOrder>(iterators: &BTreeMap<u64, Scan<K>>, generation: u64) -> bool
     ensures { MatchBool result (IsMemoryUsed iterators.now generation) (IsMemoryUsed iterators.now generation → ⊥) }
 {

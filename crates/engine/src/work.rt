@@ -1,5 +1,5 @@
-//! What an open database does beside its commands: the removal of files, flushes, and new logs (LevelDB's db/db_impl.cc,
-//! DBImpl::RemoveObsoleteFiles, CompactMemTable and MakeRoomForWrite).
+//! What an open database does beside its commands: the removal of files, flushes, and new logs
+//! (LevelDB's db/db_impl.cc, DBImpl::RemoveObsoleteFiles, CompactMemTable and MakeRoomForWrite).
 
 ghost use Rattle.std.specs.Prelude.{◌≡◌, ◌<◌, [], length, max, nat_eq, None, IsSome, false, if◌then◌else◌, IsTrue, IfErr, IfOk, Ok, OnErr, OnOk};
 ghost use Rattle.engine.specs.internal.Pieces.{ClosesTables, refused_as};
@@ -21,7 +21,7 @@ use store::Store;
 use table_access::sound_lasts;
 use versions::LiveNumbers;
 
-/// Whether there was work to do.
+/// Tells whether there was work to do.
 #[derive(Clone, Copy, Debug, PartialEq, Eq)]
 pub enum Progress {
     /// A piece of work was done.
@@ -55,9 +55,10 @@ impl<K: KeyOrder> DbState<K> {
     ghost use Rattle.engine.specs.Working.{SealsMemory, WritesTable, work_answer};
     ghost use Rattle.engine.specs.internal.Pieces.{broken_by, flush_answer, settled_as, settled_by};
 
-    /// Removes the files that aren't live, and then does the first of these that there is to do: goes on with the compaction under
-    /// way by so many entries, one for 0; writes the sealed memory table into a table file; seals the memory table, where it has
-    /// `write_buffer` bytes, and begins a log; or begins the compaction that is most wanted, and goes on with it.
+    /// Removes the obsolete files, and then does the first of these that there is to do. It merges
+    /// up to `budget` entries of the compaction under way, one for 0. It writes the sealed memtable
+    /// into a table file. It seals the memtable, if it has `write_buffer` bytes, and begins a log.
+    /// It begins the compaction that is most wanted, and merges.
     pub fn work<S: Store>(
         &mut self,
         alloc: Global,
@@ -71,22 +72,24 @@ impl<K: KeyOrder> DbState<K> {
         ensures breaks { self.old.broken ≡ false → BreaksLent S.facts source.old source.new self.new result }
         ensures caused { IsCausedIn (not_serving (open_status no_ids (open_db source.old.memory self.old))) source.old.tables.store source.new.tables.store result }
         ensures does { DoesWork K.cmp options.now budget (open_db source.old.memory self.old) (open_db source.new.memory self.new) result }
-        // While the store is faithful, a compaction is at its end exactly where no more entries were left than the budget has.
+        // While the store is faithful, a compaction is at its end exactly if no more entries were
+        // left than the budget has.
         ensures within { EndsWithin (order_of K.name K.cmp) options.now budget (seen_of S.facts source.old)
             (seen_of S.facts source.new) (open_db source.old.memory self.old) (open_db source.new.memory self.new) result }
-        // The table that it wrote of a sealed memory table has exactly that one's entries then.
+        // The table that it wrote of a sealed memtable has exactly that one's entries then.
         ensures flushes { FlushesSealed (order_of K.name K.cmp) (seen_of S.facts source.old)
             (seen_of S.facts source.new) (open_db source.old.memory self.old) (open_db source.new.memory self.new) result }
-        // Where there is none, all files are live, unless one couldn't be removed.
+        // If there is none, all files are in use, unless one couldn't be removed.
         ensures tidy { result ≡ Ok Idle → IsTrue (S.facts source.new.tables.store).faithful
             → (S.facts source.new.tables.store).failures ≡ (S.facts source.old.tables.store).failures
             → HasLiveOnly (S.facts source.new.tables.store).files (open_db source.new.memory self.new) }
-        // They are exactly those that a database without work needs then: of the logs the one that writes go to.
+        // They are exactly those that a database without work needs then: of the logs the one that
+        // writes go to.
         ensures exact { LeavesExactlyLive (order_of K.name K.cmp) (seen_of S.facts source.old) (seen_of S.facts source.new)
             (open_db source.old.memory self.old) (open_db source.new.memory self.new) result }
-        // Nor is a memory table kept then that is of no use.
+        // Nor is an obsolete memtable kept then.
         ensures dropped { result ≡ Ok Idle → HasUsedMemory source.new.memory self.new.iterators }
-        // All files that are live stay then, and those of other programs.
+        // All files in use stay then, and those of other programs.
         ensures removes { result ≡ Ok Idle → IsTrue (S.facts source.new.tables.store).faithful
             → LosesDead (S.facts source.old.tables.store) (S.facts source.new.tables.store) (open_db source.new.memory self.new) }
         ensures lock { (S.facts source.new.tables.store).locked ≡ (S.facts source.old.tables.store).locked }
@@ -102,8 +105,8 @@ impl<K: KeyOrder> DbState<K> {
         }
     }
 
-    /// Removes the files that aren't live, and lets go what is kept of them. What can't be removed is left for the next time; the
-    /// answer is whether nothing was.
+    /// Removes the obsolete files, and forgets what is kept of them. A file that can't be removed
+    /// is left for the next time. Returns whether all were removed.
     pub fn clean<S: Store>(
         &self,
         alloc: Global,
@@ -178,7 +181,7 @@ impl<K: KeyOrder> DbState<K> {
         self.do_unless_compacting(alloc, source, options, budget)
     }
 
-    // Does the first piece of work that there is to do where no compaction is under way.
+    // Does the first piece of work that there is to do if no compaction is under way.
     fn do_unless_compacting<S: Store>(
         &mut self,
         alloc: Global,
@@ -212,8 +215,8 @@ impl<K: KeyOrder> DbState<K> {
         Ok(Progress::Worked)
     }
 
-    /// Writes the sealed memory table into a table file. An empty one needs none. Where a write of the store fails, the
-    /// database is broken.
+    /// Writes the sealed memtable into a table file. An empty one needs none. If a write of the
+    /// store fails, the database breaks.
     pub fn flush<S: Store>(
         &mut self,
         alloc: Global,
@@ -272,7 +275,8 @@ impl<K: KeyOrder> DbState<K> {
         }
     }
 
-    /// Seals the memory table, and begins a log for what is written from now on. Where a write of the store fails, the database is broken.
+    /// Seals the memtable, and begins a log for what is written from now on. If a write of the
+    /// store fails, the database breaks.
     pub fn seal<S: Store>(
         &mut self,
         alloc: Global,
@@ -314,7 +318,8 @@ impl<K: KeyOrder> DbState<K> {
         }
     }
 
-    // What is new after a flush. The logs in front of the current one aren't read any more, so that none of them is to be synced.
+    // What is new after a flush. The logs before the current one aren't read any more, so none of
+    // them has to be synced.
     fn take_flushed(&mut self, flushed: Flushed<K>)
         ensures state { self.new ≡ record
             self.old {
@@ -354,8 +359,8 @@ impl<K: KeyOrder> DbState<K> {
         }
     }
 
-    // How a refusal is answered before which so many writes of the store had failed. Where one has failed since, the answer is Io, and
-    // the database is broken.
+    // How an error is answered; before the call so many writes of the store had failed. If one has
+    // failed since, the answer is Io, and the database is broken.
     pub(crate) fn refuse_since<S: Store>(
         &mut self,
         store: &S,
@@ -372,7 +377,7 @@ impl<K: KeyOrder> DbState<K> {
         DbError::Io
     }
 
-    // Where the store failed in a call that only writes, the database is broken.
+    // If the store failed in a call that only writes, the database is broken.
     fn refuse(&mut self, error: DbError) -> DbError
         ensures answer { result ≡ error }
         ensures broken { self.new ≡ broken_by self.old error }
@@ -387,7 +392,8 @@ impl<K: KeyOrder> DbState<K> {
     }
 }
 
-// How the refusal of a piece is answered: want of memory, where a file couldn't be removed either, as a failure of the store.
+// How the error of a piece is answered. Out of memory becomes a failure of the store if a file
+// couldn't be removed either.
 fn refusal(complete: bool, error: DbError) -> DbError
     ensures { result ≡ refused_as complete error }
 {

@@ -10,7 +10,7 @@ use std::alloc::Global;
 use std::test::*;
 use store::{MemStore, ShortName, Store, Trouble, Why};
 
-// The table of one entry, with sequence 2.
+// The table of one entry, with sequence number 2.
 #[rattlefmt::skip]
 const NEWER: [u8; 176] = [
     0x00, 0x09, 0x01, 0x61, 0x01, 0x02, 0x00, 0x00, 0x00, 0x00, 0x00, 0x00, 0x31, 0x00, 0x00, 0x00,
@@ -26,7 +26,8 @@ const NEWER: [u8; 176] = [
     0x00, 0x00, 0x00, 0x00, 0x00, 0x00, 0x00, 0x00, 0x57, 0xFB, 0x80, 0x8B, 0x24, 0x75, 0x47, 0xDB,
 ];
 
-// Log number 3, next file number 8, last sequence 2; in level 0 the tables 5 and 7, both of the key 61.
+// Log number 3, next file number 8, last sequence number 2; in level 0 the tables 5 and 7, both of
+// the key 61.
 #[rattlefmt::skip]
 const EDIT: &[u8] = b"\x02\x03\x03\x08\x04\x02\x07\x00\x05\xb0\x01\x09a\x01\x01\0\0\0\0\0\0\x09a\x01\x01\0\0\0\0\0\0\x07\x00\x07\xb0\x01\x09a\x01\x02\0\0\0\0\0\0\x09a\x01\x02\0\0\0\0\0\0";
 
@@ -52,7 +53,8 @@ fn each_table_is_read_once(rt: HostRuntime) {
     assert_eq!(rt; checked(rt.alloc()), Ok((true, 2 * PARTS)));
 }
 
-// What is noted where the table of the first name has to be older than that of the second, and isn't.
+// What is noted where the table of the first name has to be older than that of the second, and
+// isn't.
 fn noted(alloc: Global, older: &str, newer: &str) -> Result<Trouble, DbError> {
     let mut store = directory(alloc, TURNED, &[])?;
     put(&mut store, older, &NEWER)?;

@@ -9,8 +9,8 @@ use std::process::Abort;
 use std::test::*;
 use store::{MemStore, Store};
 
-// Log 3, next file 6, last sequence 1; then a compact pointer, or the table 5 of level 6, of which the key, the smallest or the
-// largest has no byte, seven, or eight with a kind that there is none of.
+// Log 3, next file 6, last sequence number 1; then a compact pointer, or the table 5 of level 6.
+// Its key, the smallest or the largest has no byte, seven, or eight with an unknown kind.
 #[rattlefmt::skip]
 const EDITS: &[&[u8]] = &[
     b"\x02\x03\x03\x06\x04\x01\x05\x06\x00",

@@ -13,7 +13,7 @@ const FIRST: Ids = Ids {
     iterator: 0,
 };
 
-// A memory table is sealed by its first entry.
+// A memtable is sealed by its first entry.
 fn options() -> Option<Options> {
     Options::new(1, 4_096, 2_097_152, 4, 10_485_760, 1_024)
 }
@@ -37,8 +37,8 @@ fn opened(alloc: Global, refused: u64) -> Option<Db<WatchedStore, Bytewise>> {
     Db::open(alloc, store, options()?, Mode::New, FIRST).ok()
 }
 
-// What such a database comes to: whether the store failed, whether the database tells so, and whether all was answered as if it
-// hadn't. None where it couldn't be opened.
+// What such a database comes to: whether the store failed, whether the database tells so, and
+// whether all was answered as if it hadn't. None where it couldn't be opened.
 fn told(alloc: Global, refused: u64) -> Option<(bool, bool, bool)> {
     let mut database = opened(alloc, refused)?;
     let served = serve(alloc, &mut database).is_ok();

@@ -1,4 +1,5 @@
-//! Tests of directories: what is read of them and checked in them, and what sessions answer and leave there.
+//! Tests of directories: what is read of them and checked in them, and what sessions answer and
+//! leave there.
 #![tactic(auto)]
 
 #[cfg(test)]

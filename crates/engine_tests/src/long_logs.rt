@@ -1,5 +1,5 @@
-//! Logs of more than the 1,048,576 bytes that are read of one at once; and files that are zeros from some place on, of which no more is
-//! read than tells it.
+//! Logs of more than the 1,048,576 bytes that are read of one at once. Files that are zeros from
+//! some place on, of which no more is read than shows it.
 
 use crate::readings::{log_of, put};
 use crate::watching::WatchedStore;
@@ -11,8 +11,9 @@ use std::alloc::{AllocError, Global};
 use std::test::*;
 use store::MemStore;
 
-// A put of so many bytes at sequence 1, in a log; zeros behind `CURRENT`, the MANIFEST and that log; whether the put is what is
-// read of the directory, or the refusal; and how many bytes are read at most.
+// A put of so many bytes at sequence number 1, in a log. Zeros after `CURRENT`, the MANIFEST and
+// that log. Whether the put is what is read of the directory, or the error, and how many bytes are
+// read at most.
 struct Case {
     value: usize,
     zeros: (usize, usize, usize),
@@ -26,8 +27,9 @@ const MANIFEST: DbError = DbError::Corrupt(FileKind::Manifest, Damage::Checksum)
 
 const CURRENT: DbError = DbError::Corrupt(FileKind::Current, Damage::Length);
 
-// A log of exactly one piece, one of a byte more in its data, one of two pieces and a longer one; zeros behind a log that ends in its
-// second piece, and behind one of a single block; and behind the other files.
+// A log of exactly one piece, one of a byte more in its data, one of two pieces and a longer one.
+// Zeros after a log that ends in its second piece, and after one of a single block, and after the
+// other files.
 #[rattlefmt::skip]
 const CASES: &[Case] = &[
     Case { value: 1_048_334, zeros: (0, 0, 0), wanted: Ok(true), most: 1_048_700 },
@@ -69,7 +71,7 @@ fn put_zeros(
     put(store, name, &bytes)
 }
 
-// Bytewise, log number 2, next file number 3, last sequence 0.
+// Bytewise, log number 2, next file number 3, last sequence number 0.
 const EDIT: &[u8] = b"\x01\x1aleveldb.BytewiseComparator\x02\x02\x03\x03\x04\x00";
 
 fn directory(alloc: Global, value: &[u8], case: &Case) -> Result<MemStore, DbError> {

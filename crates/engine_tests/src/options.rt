@@ -22,7 +22,8 @@ fn with(index: usize, value: u64) -> Option<Options> {
 
 const MOST: Sizes = [1 << 30, 1 << 20, 1 << 30, 1_024, 1 << 40, 65_536];
 
-// Whether the setter of this index takes the least and the greatest value, changes nothing else, and refuses all beyond.
+// Whether the setter of this index takes the least and the greatest value, changes nothing else,
+// and refuses all beyond.
 fn sets(index: usize, most: u64) -> bool {
     let mut least = DEFAULTS;
     let mut greatest = DEFAULTS;

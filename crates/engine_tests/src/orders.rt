@@ -11,8 +11,8 @@ use std::process::Abort;
 use std::test::Fail;
 use store::{MemStore, Store};
 
-// What a script is answered in a session of the order `K`. Nothing is claimed of it, so that a caller's proof needn't read what is
-// claimed of `drive`.
+// What a script is answered in a session of the order `K`. Nothing is claimed of it, so that a
+// caller's proof needn't read what is claimed of `drive`.
 fn answers<K: KeyOrder>(
     alloc: Global,
     store: MemStore,
@@ -39,7 +39,7 @@ fn after<K: KeyOrder>(
     Ok(left)
 }
 
-// Two keys, one of them a front of the other, and one behind both in the order of bytes.
+// Two keys, one of them a front of the other, and one after both in the order of bytes.
 const SCRIPT: &str =
     "open new\nput 61 31\nput 6161 32\nput 62 33\ncompact all\niter\nfirst 1\nnext 1\nnext 1\nnext 1\nseek 1 6162\nseek 1 60\n";
 
@@ -96,7 +96,7 @@ fn a_new_database_records_its_order(rt: HostRuntime) -> Result<(), Fail> {
     Ok(())
 }
 
-// The edit of a MANIFEST that names no order: log 3, next file 6, last sequence 1.
+// The edit of a MANIFEST that names no order: log 3, next file 6, last sequence number 1.
 const UNNAMED: &[u8] = b"\x02\x03\x03\x06\x04\x01";
 
 const OTHER: DbError = DbError::Unsupported(Feature::Comparator);

@@ -9,17 +9,17 @@ use std::alloc::Global;
 use std::test::*;
 use store::MemStore;
 
-// Log number 3, next file number 6, last sequence 1; the table 5 of level 6.
+// Log number 3, next file number 6, last sequence number 1; the table 5 of level 6.
 const EDIT: &[u8] =
     b"\x02\x03\x03\x06\x04\x01\x07\x06\x05\xb0\x01\x09a\x01\x01\0\0\0\0\0\0\x09a\x01\x01\0\0\0\0\0\0";
 
-// Deletes of the key 61, at the sequences 2 and 3.
+// Deletes of the key 61, at the sequence numbers 2 and 3.
 const D2: &[u8] = b"\x02\0\0\0\0\0\0\0\x01\0\0\0\0\x01a";
 
 const D3: &[u8] = b"\x03\0\0\0\0\0\0\0\x01\0\0\0\0\x01a";
 
-// A file, how many bytes of the table are there under which name, the records of the log 3, and the sequences and values
-// that are read.
+// A file, how many bytes of the table are there under which name, the records of the log 3, and the
+// sequence numbers and values that are read.
 struct Case {
     origin: Origin,
     table: (&'static str, usize),
@@ -46,7 +46,7 @@ const CASES: &[Case] = &[
     Case { origin: Origin::Log(3), table: WHOLE, log: &[b"no batch"], wanted: Err(DbError::Corrupt(FileKind::Log, Damage::Length)) },
 ];
 
-// The log 2 isn't live.
+// The log 2 isn't in use.
 fn read(alloc: Global, case: &Case) -> Result<Vec<Entry>, DbError> {
     let mut store = directory(alloc, EDIT, case.log)?;
     put(&mut store, "000002.log", &log_of(alloc, &[D2])?)?;
@@ -70,7 +70,8 @@ fn is(entry: &Entry, wanted: &(u64, Option<&[u8]>)) -> bool {
     }
 }
 
-/// Whether these are entries of the key `a` with these sequences, and these values or none.
+/// Returns whether these are entries of the key `a` with these sequence numbers, and these values
+/// or none.
 pub fn are(entries: &[Entry], wanted: &[(u64, Option<&[u8]>)]) -> bool {
     if entries.len() != wanted.len() {
         return false;

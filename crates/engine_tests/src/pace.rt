@@ -7,7 +7,8 @@ use std::alloc::{AllocGlobal, Global};
 use std::test::Fail;
 use store::{Extent, Fault, FaultStore, MemStore, Plan, Store};
 
-// By how many of level 0 a compaction is brought about, and the bytes of a memory table and of a table file.
+// By how many of level 0 a compaction is brought about, and the bytes of a memtable and of a
+// table file.
 const LEVEL0_FILES: u64 = 2;
 
 const BYTES: u64 = 40;
@@ -42,7 +43,7 @@ fn is_low<S: Store>(db: &Db<S, Bytewise>) -> bool {
         .is_some_and(|count| count as u64 <= 3 * LEVEL0_FILES)
 }
 
-// The first of so many writes behind which work hasn't kept up.
+// The first of so many writes after which work hasn't kept up.
 fn first_late<S: Store>(
     alloc: Global,
     db: &mut Db<S, Bytewise>,
@@ -91,7 +92,8 @@ fn work_keeps_up_with_writes(rt: HostRuntime) -> Result<(), Fail> {
     Ok(())
 }
 
-// Writes until work is refused, and answers how many were written by then, or none where nothing is refused.
+// Writes until work is refused, and answers how many were written by then, or none if nothing is
+// refused.
 fn first_refused(alloc: Global, db: &mut Db<FaultStore, Bytewise>) -> Result<Option<u8>, DbError> {
     for number in 0..200 {
         match put(alloc, db, number) {
@@ -104,7 +106,8 @@ fn first_refused(alloc: Global, db: &mut Db<FaultStore, Bytewise>) -> Result<Opt
     Ok(None)
 }
 
-// The call of this number fails, in a piece of work: what was written before it is there once the database is opened anew.
+// The call of this number fails, in a piece of work: what was written before it is there once the
+// database is opened anew.
 fn refused(alloc: Global, call: u64) -> Result<bool, DbError> {
     let fault = Fault::Fail(Extent::Part(0));
     let plan = Some(Plan { call, fault });

@@ -7,7 +7,8 @@ use std::alloc::{AllocGlobal, Global};
 use std::test::Fail;
 use store::MemStore;
 
-// What is written, a digit each, one batch after the other: some keys are written twice, and d is deleted again.
+// What is written, a digit each, one batch after the other: some keys are written twice, and d is
+// deleted again.
 const PUTS: &[(&[u8], &[u8])] = &[
     (b"a", b"1"),
     (b"c", b"2"),
@@ -19,7 +20,8 @@ const PUTS: &[(&[u8], &[u8])] = &[
     (b"\xff\xff", b"8"),
 ];
 
-// Opens a database in memory whose memory table is sealed by each write, and writes all of it there; some of it comes into tables.
+// Opens a database in memory whose memtable is sealed by each write, and writes all of it
+// there; some of it comes into tables.
 fn written<K: KeyOrder>(alloc: Global) -> Result<Db<MemStore, K>, DbError> {
     let options = Options::default()
         .with_write_buffer(1)

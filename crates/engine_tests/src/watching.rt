@@ -6,8 +6,9 @@ use std::alloc::Global;
 use std::cell::Cell;
 use store::{MemStore, Store, StoreError, Trouble};
 
-/// Files in memory. It counts the calls, but for those of the lock, the reads of tables, and the bytes that all reads gave. One call
-/// may be refused, a byte of what it returns be another one than was written, and files not be removed: so it isn't faithful.
+/// Holds files in memory. It counts the calls, but for those of the lock, the reads of tables, and
+/// the bytes that all reads gave. One call may fail, a byte of what it returns be another one than
+/// was written, and files not be removed: so it isn't faithful.
 #[derive(Drop)]
 pub struct WatchedStore {
     inner: MemStore,
@@ -21,12 +22,13 @@ pub struct WatchedStore {
 }
 
 impl WatchedStore {
-    /// These files, of which nothing was read yet.
+    /// Wraps these files, of which nothing was read yet.
     pub fn new(inner: MemStore) -> Self {
         WatchedStore::refusing(inner, 0)
     }
 
-    /// The same, where the call of this number, from 1 on, changes nothing and answers that the device failed.
+    /// Wraps the same, but the call of this number, from 1 on, changes nothing and answers that the
+    /// device failed.
     pub fn refusing(inner: MemStore, refused: u64) -> Self {
         WatchedStore {
             inner,
@@ -40,32 +42,32 @@ impl WatchedStore {
         }
     }
 
-    /// How many calls there were so far.
+    /// Returns how many calls there were so far.
     pub fn calls(&self) -> u64 {
         self.calls
     }
 
-    /// How many reads of tables there were.
+    /// Returns how many reads of tables there were.
     pub fn table_reads(&self) -> u64 {
         self.table_reads
     }
 
-    /// How many bytes all reads gave together.
+    /// Returns how many bytes all reads gave together.
     pub fn bytes_read(&self) -> u64 {
         self.bytes_read
     }
 
-    /// From now on each table has this byte at this offset.
+    /// Gives each table this byte at this offset from now on.
     pub fn change(&self, offset: u64, byte: u8) {
         self.changed.set(Some((offset, byte)));
     }
 
-    /// From now on no file can be removed, or each can.
+    /// Lets no file be removed from now on, or each.
     pub fn keep_files(&self, keeps: bool) {
         self.keeps.set(keeps);
     }
 
-    /// The files as they are now.
+    /// Returns the files as they are now.
     pub fn into_inner(self) -> MemStore {
         self.inner
     }
@@ -110,7 +112,8 @@ impl Store for WatchedStore {
 
     ghost told = { λ w. w.noted };
 
-    // Where a call is refused, a file that isn't there is removed, or synced by one that writes, which fails and is counted.
+    // Where a call is refused, a file that isn't there is removed, or synced by one that writes,
+    // which fails and is counted.
 
     fn failures(&self) -> u64 {
         self.inner.failures()

@@ -1,4 +1,4 @@
-//! Each call of the store fails in turn, once without being done and once behind it.
+//! Each call of the store fails in turn, once without being done and once after it was done.
 use crate::endings::{are_left, remains_of};
 use crate::lines::Line;
 use crate::model::Model;
@@ -14,7 +14,8 @@ const SCRIPTS: [Script; 6] = [BATCH, ITERATOR, STEPS, BY_LEVEL, SNAPSHOTS, TURNS
 
 const EXTENTS: [Extent; 2] = [Extent::Before, Extent::After];
 
-// How many calls a session made, and whether each answer was one that the model allows, and its files those that it may leave.
+// How many calls a session made, and whether each answer was one that the model allows, and its
+// files those that it may leave.
 fn tried(alloc: Global, script: Script, plan: Option<Plan>) -> Result<(u64, bool), DbError> {
     let mut model = Model::new();
     let mut session = session(

@@ -15,7 +15,7 @@ fn checked(alloc: Global, store: &mut MemStore) -> Result<Report, DbError> {
     check::<Bytewise, MemStore>(alloc, store)
 }
 
-/// Whether a check accepts the files.
+/// Returns whether a check finds the files consistent.
 pub fn is_consistent(alloc: Global, store: &mut MemStore) -> bool {
     match checked(alloc, store) {
         Ok(_) => true,
@@ -24,7 +24,7 @@ pub fn is_consistent(alloc: Global, store: &mut MemStore) -> bool {
     }
 }
 
-/// The files as they are now, in a copy with its lock free.
+/// Returns the files as they are now, in a copy with its lock free.
 pub fn remains_of(session: &Faulty) -> Result<MemStore, StoreError> {
     match session.store().remains() {
         Ok(files) => Ok(files),
@@ -66,7 +66,8 @@ fn is_walked(alloc: Global, session: &mut Faulty, wanted: &Map) -> bool {
 
 const LAST: Line = Line::Write(&[(O, Some(b'9'))]);
 
-// Whether an open database goes on from this map: a put, all work, a compaction of all, and all work again.
+// Whether an open database goes on from this map: a put, all work, a compaction of all, and all
+// work again.
 fn goes_on(alloc: Global, session: &mut Faulty, map: Map) -> bool {
     let map = written(map, &[(O, Some(b'9'))]);
     asked(alloc, session, LAST) == Seen::Done
@@ -78,7 +79,8 @@ fn goes_on(alloc: Global, session: &mut Faulty, map: Map) -> bool {
         && asked(alloc, session, Line::Close) == Seen::Done
 }
 
-// Whether a session opens the files, finds what the model allows behind a process that ended in this command, and goes on.
+// Whether a session opens the files, finds what the model allows after a process that ended in this
+// command, and goes on.
 fn is_found(alloc: Global, session: &mut Faulty, model: &Model, line: Line) -> bool {
     if asked(alloc, session, Line::Open(Mode::Any)) != Seen::Done {
         return false;
@@ -107,7 +109,8 @@ fn files_in(alloc: Global, store: &mut MemStore) -> Result<usize, StoreError> {
     Ok(store.list(alloc)?.len())
 }
 
-// Whether a check tells as many tables and logs as there are files beside CURRENT, the lock and the MANIFEST.
+// Whether a check tells as many tables and logs as there are files beside CURRENT, the lock and the
+// MANIFEST.
 fn tells_all(report: &Report, files: usize) -> bool {
     match report {
         Report::Empty => false,
@@ -140,9 +143,10 @@ fn are_well(alloc: Global, files: MemStore, sizes: Sizes, model: &Model, line: L
     }
 }
 
-/// Whether a process may have left these files that ended in this command, in the state of the model: a check accepts them, a session
-/// over them finds what was written and serves, and behind that a check accepts what is left, and nothing is left beside. Where
-/// that isn't so, it is tried once more, since memory may have run out in it.
+/// Returns whether a process may have left these files that ended in this command, in the state of
+/// the model. A check must find them consistent, and a session over them what was written, and
+/// serve. After that a check must find what is left consistent, with nothing left beside. If that
+/// isn't so, it is tried once more, since memory may have run out in it.
 pub fn are_left(alloc: Global, files: &MemStore, sizes: Sizes, model: &Model, line: Line) -> bool {
     for _ in 0..2 {
         if let Ok(copy) = files.copy() {

@@ -1,4 +1,5 @@
-//! Tests of a database whose store fails, stops or finds no memory, at each of its calls and each of its allocations in turn.
+//! Tests of a database whose store fails, crashes or finds no memory, at each of its calls and each
+//! of its allocations in turn.
 #![tactic(auto)]
 
 #[cfg(test)]

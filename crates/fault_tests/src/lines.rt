@@ -1,4 +1,5 @@
-//! The commands of scripts, over a few keys with values of a byte, and their answers in the same terms.
+//! The commands of scripts, over a few keys with values of a byte, and their answers in the same
+//! terms.
 use batch::Operation;
 use coding::{Bytes, DbError};
 use engine::{Answer, Mode, Op};
@@ -28,10 +29,10 @@ pub const O: usize = 6;
 /// A value, of a byte, by the place of its key.
 pub type Map = [Option<u8>; KEYS];
 
-/// A key, and the value that it is given, or none where it is deleted.
+/// A key, and the value that it is given, or none if it is deleted.
 pub type Change = (usize, Option<u8>);
 
-/// A command.
+/// Names a command.
 #[derive(Clone, Copy)]
 pub enum Line {
     Open(Mode),
@@ -51,7 +52,7 @@ pub enum Line {
     Close,
 }
 
-/// What a command was answered.
+/// Tells what a command was answered.
 #[derive(Clone, Copy, PartialEq)]
 pub enum Seen {
     Done,
@@ -89,7 +90,7 @@ fn write_of(alloc: Global, changes: &[Change]) -> Result<Op, DbError> {
     Ok(Op::Write(operations, false))
 }
 
-/// The command, as a session takes it.
+/// Returns the command, as a session takes it.
 pub fn op_of(alloc: Global, line: Line) -> Result<Op, DbError> {
     Ok(match line {
         Line::Open(mode) => Op::Open(mode),
@@ -110,7 +111,7 @@ pub fn op_of(alloc: Global, line: Line) -> Result<Op, DbError> {
     })
 }
 
-// The byte, where there is one and no more.
+// The byte, if there is one and no more.
 fn only_byte(bytes: &Bytes) -> Option<u8> {
     match bytes.as_slice() {
         [byte] => Some(*byte),
@@ -141,7 +142,7 @@ fn seen_value(value: &Bytes) -> Seen {
     }
 }
 
-/// The answer.
+/// Returns the answer.
 pub fn told_by(answer: &Answer) -> Seen {
     match answer {
         Answer::Done => Seen::Done,

@@ -1,5 +1,5 @@
-//! Sessions to be run with each of their allocations refused in turn (`tools/allocations`): the refused call is made once more, and all
-//! else is answered as the plain model says.
+//! Sessions to be run with each of their allocations failing in turn (`tools/allocations`). The
+//! call that failed is made once more, and all else is answered as the plain model says.
 use crate::endings::{are_left, remains_of};
 use crate::lines::Line;
 use crate::model::Model;
@@ -11,8 +11,8 @@ use std::alloc::{AllocGlobal, Global};
 use std::test::Fail;
 use store::MemStore;
 
-// How far a session comes: the lines that were answered well, and one more each where all work comes to its end, and where the files
-// are those that it should leave.
+// How far a session comes: the lines that were answered well, one more if all work comes to its
+// end, and one more if the files are those that it should leave.
 fn gone_through(alloc: Global, session: &mut Faulty, script: Script) -> Result<usize, DbError> {
     let mut model = Model::new();
     let lines = run(alloc, session, &mut model, script.lines);

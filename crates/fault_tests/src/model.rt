@@ -1,4 +1,5 @@
-//! A plain model of a database over a store that may fail: which answers it may give, and what it holds then.
+//! A plain model of a database over a store that may fail: which answers it may give, and what it
+//! holds then.
 use crate::lines::{Change, KEYS, Line, Map, Seen};
 use coding::DbError;
 use engine::Mode;
@@ -19,7 +20,7 @@ enum Standing {
     Broken,
 }
 
-/// What failed in a call.
+/// Tells what failed in a call.
 #[derive(Clone, Copy, PartialEq)]
 pub enum Failed {
     Nothing,
@@ -29,7 +30,7 @@ pub enum Failed {
     Other,
 }
 
-/// One state in which a session may be.
+/// Holds one state in which a session may be.
 #[derive(Clone, Copy)]
 pub struct Model {
     now: Map,
@@ -38,7 +39,7 @@ pub struct Model {
     // whether there is a database, where that is known
     made: Option<bool>,
     standing: Standing,
-    // whether the lock may not have been given back
+    // whether the lock may still be held
     locked: bool,
     snapshots: [Option<Map>; VIEWS],
     iterators: [Option<View>; VIEWS],
@@ -52,7 +53,7 @@ const NO_SNAPSHOTS: [Option<Map>; VIEWS] = [None; VIEWS];
 
 const NO_ITERATORS: [Option<View>; VIEWS] = [None; VIEWS];
 
-/// What a map is behind a batch.
+/// Returns what a map is after a batch.
 pub fn written(map: Map, changes: &[Change]) -> Map {
     let mut map = map;
     for change in changes {
@@ -63,7 +64,7 @@ pub fn written(map: Map, changes: &[Change]) -> Map {
     map
 }
 
-/// The value of a key, by its place.
+/// Returns the value of a key, by its place.
 pub fn value_at(map: &Map, place: usize) -> Option<u8> {
     match map.get(place) {
         Some(value) => *value,
@@ -71,7 +72,7 @@ pub fn value_at(map: &Map, place: usize) -> Option<u8> {
     }
 }
 
-/// The first place from one on at which a map has a value.
+/// Returns the first place from one on at which a map has a value.
 pub fn up_from(map: &Map, low: usize) -> Option<usize> {
     for place in low..KEYS {
         if value_at(map, place).is_some() {
@@ -96,7 +97,7 @@ fn index_of(id: u64) -> usize {
 }
 
 impl Model {
-    /// No database, and none open.
+    /// Makes a model with no database, and none open.
     pub fn new() -> Self {
         Model {
             now: EMPTY,
@@ -111,7 +112,7 @@ impl Model {
         }
     }
 
-    /// An open one that holds this.
+    /// Makes an open one that holds this.
     pub fn serving(map: Map) -> Self {
         let mut model = Model::new();
         model.now = map;
@@ -120,12 +121,13 @@ impl Model {
         model
     }
 
-    /// Whether it is closed.
+    /// Returns whether it is closed.
     pub fn is_closed(&self) -> bool {
         self.standing == Standing::Closed
     }
 
-    /// What the files may hold if the process stops inside a command, or had stopped before it.
+    /// Returns whether the files may hold this if the process crashes inside a command, or had
+    /// crashed before it.
     pub fn may_hold(&self, line: Line, found: &Map) -> bool {
         let batch = match line {
             Line::Write(changes) => *found == written(self.now, changes),
@@ -134,12 +136,13 @@ impl Model {
         batch || self.holds(found)
     }
 
-    /// Whether the files may hold this: what was written, and the batch whose write failed or not.
+    /// Returns whether the files may hold this: what was written, and the batch whose write failed
+    /// or not.
     pub fn holds(&self, found: &Map) -> bool {
         *found == self.now || self.doubt == Some(*found)
     }
 
-    /// Whether a batch is in doubt though the database was opened again.
+    /// Returns whether a batch is in doubt though the database was opened again.
     pub fn is_unsettled(&self) -> bool {
         self.standing == Standing::Open && self.doubt.is_some()
     }
@@ -150,8 +153,8 @@ impl Model {
         self.doubt = None;
     }
 
-    /// The state behind a command that was answered so, or none where it may not be: Io comes where a call failed, and always where one did
-    /// that writes.
+    /// Returns the state after a command that was answered so, or none if it may not be: Io comes
+    /// if a call failed, and always if one did that writes.
     pub fn after(&self, line: Line, answer: Seen, failed: Failed) -> Option<Model> {
         let is_io = answer == Seen::Refused(DbError::Io);
         if is_io && failed == Failed::Nothing || !is_io && failed == Failed::Write {
@@ -250,7 +253,8 @@ impl Model {
         }
     }
 
-    // A failed write breaks the database, also in a step of a compaction. Any other failure leaves it as it was.
+    // A failed write breaks the database, also in a step of a compaction. Any other failure leaves
+    // it as it was.
     fn after_failure(&self, line: Line, failed: Failed) -> Option<Model> {
         match (line, failed) {
             (Line::Write(changes), Failed::Write) => {

@@ -9,7 +9,7 @@ use std::alloc::{AllocGlobal, Global};
 use std::test::Fail;
 use store::{Extent, Fault, MemStore, Plan, Store};
 
-// What is looked for in the files behind some lines.
+// What is looked for in the files after some lines.
 enum Found {
     // A file of this name has these bytes and no more.
     Bytes(&'static str, &'static [u8]),
@@ -17,7 +17,7 @@ enum Found {
     Gone(&'static str),
 }
 
-// A line of a script, its answer, and what the files have behind it.
+// A line of a script, its answer, and what the files have after it.
 type Line = (&'static str, &'static str, &'static [Found]);
 
 struct Row {
@@ -31,7 +31,7 @@ struct Row {
     call: u64,
 }
 
-// A memory table is sealed by its first entry.
+// A memtable is sealed by its first entry.
 const EAGER: Sizes = Sizes {
     write_buffer: 1,
     file_bytes: 2_097_152,
@@ -39,8 +39,9 @@ const EAGER: Sizes = Sizes {
     base_bytes: 10_485_760,
 };
 
-// The calls of an open of nothing: lock, list, the new MANIFEST (create, append, sync), the temporary file (the same), rename, the new
-// log, list. Those of a flush: list, the table (create, append twice, sync), the edit (append, sync).
+// The calls of an open of nothing: lock, list, the new MANIFEST (create, append, sync), the
+// temporary file (the same), rename, the new log, list. Those of a flush: list, the table (create,
+// append twice, sync), the edit (append, sync).
 const ROWS: &[Row] = &[
     Row {
         sizes: DEFAULTS,
@@ -210,7 +211,7 @@ fn made(alloc: Global, row: &Row) -> Result<MemStore, DbError> {
     Ok(before.into_store().into_inner())
 }
 
-// How many calls the store has had behind so many lines of a row, without its fault.
+// How many calls the store has had after so many lines of a case, without its fault.
 fn calls_behind(alloc: Global, row: &Row, lines: usize) -> Result<u64, DbError> {
     let mut counted = session(alloc, WatchedStore::new(made(alloc, row)?, None), row.sizes)?;
     for (line, _, _) in row.lines.iter().take(lines) {

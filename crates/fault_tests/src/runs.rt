@@ -12,7 +12,7 @@ use store::Store;
 /// A session over a store that may fail.
 pub type Faulty = Session<WatchedStore, Bytewise>;
 
-/// A session with options of these sizes.
+/// Makes a session with options of these sizes.
 pub fn session(alloc: Global, store: WatchedStore, sizes: Sizes) -> Result<Faulty, DbError> {
     match options_of(sizes) {
         Some(options) => Ok(Session::new(alloc, store, options)),
@@ -20,7 +20,8 @@ pub fn session(alloc: Global, store: WatchedStore, sizes: Sizes) -> Result<Fault
     }
 }
 
-// Gives a command. Nothing is claimed of it, so that a caller's proof needn't read what is claimed of `apply`.
+// Gives a command. Nothing is claimed of it, so that a caller's proof needn't read what is claimed
+// of `apply`.
 fn given(alloc: Global, session: &mut Faulty, op: &Op) -> Answer {
     session.apply(alloc, op)
 }
@@ -45,7 +46,8 @@ fn failures_of(session: &Faulty) -> (u64, u64) {
     (session.store().failures(), session.store().failed_writes())
 }
 
-/// Whether everything was synced in front of what names it, and the store counted each failed write.
+/// Returns whether everything was synced before what names it, and the store counted each failed
+/// write.
 pub fn is_ordered(session: &Faulty) -> bool {
     !session.store().is_early()
         && session.store().write_failures() == session.store().failed_writes()
@@ -62,7 +64,7 @@ fn failed_since(session: &Faulty, before: (u64, u64)) -> Failed {
     }
 }
 
-/// How many calls the store has had.
+/// Returns how many calls the store has had.
 pub fn calls_of(session: &Faulty) -> u64 {
     session.store().calls()
 }
@@ -79,7 +81,8 @@ fn read_all(alloc: Global, session: &mut Faulty) -> Option<Map> {
     Some(map)
 }
 
-// Where a batch was in doubt and the database is open again, says whether it is there wholly or not at all.
+// Where a batch was in doubt and the database is open again, says whether it is there wholly or not
+// at all.
 fn settles(alloc: Global, session: &mut Faulty, model: &mut Model) -> bool {
     if !model.is_unsettled() {
         return true;
@@ -117,7 +120,8 @@ fn serves(alloc: Global, session: &mut Faulty, model: &mut Model, line: Line) ->
     true
 }
 
-/// Goes through a script, and answers how many lines were answered as the model allows before one that wasn't.
+/// Goes through a script, and answers how many lines were answered as the model allows before one
+/// that wasn't.
 pub fn run(alloc: Global, session: &mut Faulty, model: &mut Model, lines: &[Line]) -> usize {
     for (number, line) in lines.iter().enumerate() {
         if !serves(alloc, session, model, *line) {
@@ -127,8 +131,8 @@ pub fn run(alloc: Global, session: &mut Faulty, model: &mut Model, lines: &[Line
     lines.len()
 }
 
-/// Works until there is nothing left to do, or until the database is broken or closed, a hundred times at most. Says whether it came
-/// to that, with answers that the model allows.
+/// Works until there is nothing left to do, or until the database is broken or closed, a hundred
+/// times at most. Says whether it came to that, with answers that the model allows.
 pub fn rests(alloc: Global, session: &mut Faulty, model: &mut Model) -> bool {
     for _ in 0..100 {
         match step(alloc, session, model, Line::Work(9)) {

@@ -9,7 +9,7 @@ pub struct Script {
     pub lines: &'static [Line],
 }
 
-/// The bytes of a memory table and of a file, the files of level 0, and the bytes of level 1.
+/// The bytes of a memtable and of a file, the files of level 0, and the bytes of level 1.
 #[derive(Clone, Copy)]
 pub struct Sizes {
     pub write_buffer: u64,
@@ -26,7 +26,7 @@ pub const DEFAULTS: Sizes = Sizes {
     base_bytes: 10_485_760,
 };
 
-// A memory table is sealed by its first entry, and five files of level 0 are compacted.
+// A memtable is sealed by its first entry, and five files of level 0 are compacted.
 const FIVE_FILES: Sizes = Sizes {
     write_buffer: 1,
     file_bytes: 2_097_152,
@@ -42,7 +42,7 @@ const SMALL: Sizes = Sizes {
     base_bytes: 400,
 };
 
-/// The options of these sizes.
+/// Returns the options of these sizes.
 pub fn options_of(sizes: Sizes) -> Option<Options> {
     Options::new(
         sizes.write_buffer,
@@ -64,7 +64,7 @@ pub const BATCH: Script = Script {
     ],
 };
 
-/// An iterator over a memory table that grows and is compacted beneath it.
+/// An iterator over a memtable that grows and is compacted beneath it.
 pub const ITERATOR: Script = Script {
     sizes: DEFAULTS,
     lines: &[
@@ -156,7 +156,7 @@ pub const SNAPSHOTS: Script = Script {
     ],
 };
 
-/// An iterator over a table and a memory table, which turns.
+/// An iterator over a table and a memtable, which turns.
 pub const TURNS: Script = Script {
     sizes: DEFAULTS,
     lines: &[

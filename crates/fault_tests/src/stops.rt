@@ -1,4 +1,5 @@
-//! The process stops at each call of the store: not at all done, wholly, and of an append with a beginning of its bytes.
+//! The process crashes at each call of the store: not at all done, wholly, and of an append with a
+//! beginning of its bytes.
 use crate::endings::{are_left, remains_of};
 use crate::lines::Line;
 use crate::model::Model;
@@ -12,8 +13,8 @@ use store::{Extent, Fault, MemStore, Plan, Store};
 
 const SCRIPTS: [Script; 5] = [PUTS, ITERATOR, STEPS, SNAPSHOTS, LEVELS];
 
-// Goes through a script up to the line in which a call comes. Answers that line, or none where an answer before it isn't one that
-// the model allows. Behind the last line it is a close.
+// Goes through a script up to the line in which a call comes. Answers that line, or none if an
+// answer before it isn't one that the model allows. After the last line it is a close.
 fn stopped_in(
     alloc: Global,
     session: &mut Faulty,
@@ -52,7 +53,8 @@ struct Start {
     model: Model,
 }
 
-// What comes of a stop: the bytes that are left, how many calls there were, and whether the files are those that it may leave.
+// What comes of a process crash: the bytes that are left, how many calls there were, and whether
+// the files are those that it may leave.
 #[derive(Clone, Copy)]
 struct Outcome {
     bytes: u64,
@@ -82,7 +84,7 @@ fn outcome_of(
     Ok(Outcome { bytes, calls, well })
 }
 
-// The bytes that a stop at this call leaves, where they are those that it may leave.
+// The bytes that a process crash at this call leaves, if they are those that it may leave.
 fn left_by(alloc: Global, start: &Start, script: Script, call: u64, extent: Extent) -> Option<u64> {
     let fault = Fault::Stop(extent);
     match outcome_of(alloc, start, script, Some(Plan { call, fault })) {
@@ -91,7 +93,7 @@ fn left_by(alloc: Global, start: &Start, script: Script, call: u64, extent: Exte
     }
 }
 
-// Stops at a call in each way. Answers in how many ways, if all is well.
+// Crashes at a call in each way. Answers in how many ways, if all is well.
 fn stops_at(alloc: Global, start: &Start, script: Script, call: u64) -> Option<u64> {
     let before = left_by(alloc, start, script, call, Extent::Before)?;
     let behind = left_by(alloc, start, script, call, Extent::After)?;
@@ -105,7 +107,7 @@ fn stops_at(alloc: Global, start: &Start, script: Script, call: u64) -> Option<u
     Some(5)
 }
 
-// How many stops of a script there were, all well, or the first call at which one isn't.
+// How many crashes of a script there were, all well, or the first call at which one isn't.
 fn first_wrong(alloc: Global, start: &Start, script: Script) -> Result<u64, u64> {
     let Ok(
         Outcome {
@@ -154,7 +156,7 @@ fn the_process_may_stop_at_each_call(rt: HostRuntime) -> Result<(), Fail> {
     Ok(())
 }
 
-// How many calls the store has had behind the first put.
+// How many calls the store has had after the first put.
 fn calls_behind_a_put(alloc: Global) -> Result<u64, DbError> {
     let mut model = Model::new();
     let mut session = session(
@@ -168,7 +170,7 @@ fn calls_behind_a_put(alloc: Global) -> Result<u64, DbError> {
     Ok(calls_of(&session))
 }
 
-// What a session leaves whose second put fails behind so many bytes.
+// What a session leaves whose second put fails after so many bytes.
 fn behind_a_failed_put(alloc: Global, count: usize) -> Result<Start, DbError> {
     let call = calls_behind_a_put(alloc)?.saturating_add(1);
     let fault = Fault::Fail(Extent::Part(count));

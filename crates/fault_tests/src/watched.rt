@@ -1,4 +1,5 @@
-//! A store in memory that fails where it is planned, and knows which of its calls did, and what was synced in front of what.
+//! A store in memory that fails where it is planned. It knows which of its calls failed, and what
+//! was synced before what.
 ghost use Rattle.std.specs.Prelude.{◌≡◌};
 ghost use Rattle.store.specs.FaultFacts.{fault_facts};
 
@@ -13,7 +14,7 @@ struct Unsynced {
     temporary: bool,
 }
 
-/// Files in memory, of which one call fails. It takes no memory of its own.
+/// Holds files in memory, of which one call fails. It takes no memory of its own.
 #[derive(Drop)]
 pub struct WatchedStore {
     inner: FaultStore,
@@ -23,7 +24,7 @@ pub struct WatchedStore {
 }
 
 impl WatchedStore {
-    /// These files, and the failure that is planned.
+    /// Wraps these files, with the failure that is planned.
     pub fn new(inner: MemStore, plan: Option<Plan>) -> Self {
         WatchedStore {
             inner: FaultStore::new(inner, plan),
@@ -37,28 +38,28 @@ impl WatchedStore {
         }
     }
 
-    /// How many calls there were so far.
+    /// Returns how many calls there were so far.
     pub fn calls(&self) -> u64 {
         self.inner.calls()
     }
 
-    /// How many of them failed that make or fill a file, sync it, or give it another name.
+    /// Returns how many of them failed that make or fill a file, sync it, or give it another name.
     pub fn failed_writes(&self) -> u64 {
         self.failed_writes
     }
 
-    /// Whether an edit was appended in front of the sync of the table that it names, or CURRENT replaced before that of the MANIFEST
-    /// or of itself.
+    /// Returns whether an edit was appended before the sync of the table that it names, or CURRENT
+    /// was replaced before that of the MANIFEST or of itself.
     pub fn is_early(&self) -> bool {
         self.is_early
     }
 
-    /// The files as they are now, in a copy with its lock free.
+    /// Returns the files as they are now, in a copy with its lock free.
     pub fn remains(&self) -> Result<MemStore, StoreError> {
         self.inner.remains()
     }
 
-    /// The files as they are now.
+    /// Returns the files as they are now.
     pub fn into_inner(self) -> MemStore {
         self.inner.into_inner()
     }

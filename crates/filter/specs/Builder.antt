@@ -1,4 +1,5 @@
--- How a filter block is written. What is built in is a list of hashes for each filter, from the first on.
+-- How a filter block is written. What is built in is a list of hashes for each filter, from the
+-- first on.
 use Rattle.std.specs.Prelude.{◌≡◌, ◌<◌, ◌+◌, ◌-◌, ℕ, List, [], ◌∷◌, ◌++◌, length, replicate, slice_index_or, slice_set}
 use Rattle.std.specs.List.{concat, flat_map}
 use Rattle.coding.specs.Fixed.{fixed32}
@@ -25,7 +26,8 @@ abbrev pub starts_of : ℕ → List (List ℕ) → List ℕ
 starts_of start [] = []
 starts_of start (filter ∷ filters) = start ∷ starts_of (start + length filter) filters
 
--- the filter block: the filters, where each begins, where the array of these begins, and the base 11
+-- the filter block: the filters, where each begins, where the array of these begins, and the base
+-- 11
 pub record IsWritten (groups : List (List ℕ)) (bytes : List ℕ) : Type 0 where
   pub filters : List (List ℕ)
   pub each : AreFilters groups filters
@@ -37,7 +39,8 @@ pub record HasFilters (groups : List (List ℕ)) (bytes : List ℕ) : Type 0 whe
   pub count : filter_count bytes ≡ length groups
   pub each : (i : ℕ) → i < length groups → IsFilter (slice_index_or groups i []) (filter_at bytes i)
 
--- Why a block isn't written: out of memory, or since it would be too long, which is so only where this fact holds.
+-- Why a block isn't written: out of memory, or since it would be too long, which is so only where
+-- this fact holds.
 abbrev pub GivesUpOnly : DbError → Type 0 → Type 0
 GivesUpOnly OutOfMemory too_long = Unit {0}
 GivesUpOnly (Unsupported what) too_long = too_long

@@ -1,4 +1,4 @@
--- Entries whose sequences rise.
+-- Entries whose sequence numbers rise.
 use Rattle.std.proofs.Common.{◌≡◌, ◌+◌, ◌<◌, ◌≤◌, ℕ, List, [], ◌∷◌, ◌++◌, sym, arith}
 use Rattle.std.specs.List.{AllByRecursion}
 use Rattle.ikey.specs.declared.entry.Entry.{Entry}

@@ -6,10 +6,11 @@ use std::test::*;
 // What a batch has: keys, each with its value, or with none where it is deleted.
 type Given = (&'static [u8], Option<&'static [u8]>);
 
-// Put `a` = `1` at sequence 1.
+// Put `a` = `1` at sequence number 1.
 const ONE_PUT: [u8; 17] = [1, 0, 0, 0, 0, 0, 0, 0, 1, 0, 0, 0, 1, 1, 0x61, 1, 0x31];
 
-// Sequences, operations and their bytes. The last sequence is 2^56 - 1: a batch of one operation may have it.
+// Sequence numbers, operations and their bytes. The last sequence number is 2^56 - 1: a batch of
+// one operation may have it.
 const ENCODED: [(u64, &[Given], &[u8]); 5] = [
     (1, &[(b"a", Some(b"1"))], &ONE_PUT),
     (
@@ -143,8 +144,9 @@ fn long_values_have_long_lengths(rt: HostRuntime) -> Result<(), Fail> {
     Ok(())
 }
 
-// Where a byte of that put stands, what it becomes, and the damage that it makes: a sequence of 2^56, a count of
-// none, of two and of 2^24 + 1, a kind that isn't known, a delete, and lengths past the end.
+// Where a byte of that put stands, what it becomes, and the damage that it makes. The cases: a
+// sequence number of 2^56; a count of none, of two and of 2^24 + 1; a kind that isn't known; a
+// delete; lengths past the end.
 const CHANGES: [(usize, u8, Damage); 9] = [
     (7, 1, Damage::Number),
     (8, 0, Damage::Length),
@@ -157,7 +159,7 @@ const CHANGES: [(usize, u8, Damage); 9] = [
     (15, 0x81, Damage::Length),
 ];
 
-// More operations than there are bytes, and one of three past the last sequence.
+// More operations than there are bytes, and one of three past the last sequence number.
 const DAMAGED: [(&[u8], Damage); 2] = [
     (b"\0\0\0\0\0\0\0\0\xff\xff\xff\xff", Damage::Length),
     (
@@ -236,7 +238,8 @@ fn longest_value(alloc: Global) -> Result<Vec<u8>, AllocError> {
     }
 }
 
-// To be run with each allocation failing in turn: one that is made for the second value would be answered otherwise.
+// To be run with each allocation failing in turn: one that is made for the second value would be
+// answered otherwise.
 #[test]
 fn a_second_longest_value_is_refused_before_it_is_copied(rt: HostRuntime) -> Result<(), Fail> {
     let value = longest_value(rt.alloc())?;
@@ -262,7 +265,7 @@ fn is_full(batch: &mut Batch) -> bool {
         && refusal(batch.ops()).is_none()
 }
 
-// Whether the operations are refused with one more, and a long key is refused behind one of them.
+// Whether the operations are refused with one more, and a long key is refused after one of them.
 fn are_refused(
     alloc: Global,
     operations: &mut Vec<Operation>,

@@ -145,8 +145,8 @@ fn two_entries_share_their_front(rt: HostRuntime) -> Result<(), Fail> {
 
 type Front = (&'static [u8], &'static [u8], &'static [u8]);
 
-// Two keys, and the block of both without values. They share 7, 8, 9, 15, 16 and 17 bytes, 3 and 15 before others that
-// are the same, and the whole of the first.
+// Two keys, and the block of both without values. They share 7, 8, 9, 15, 16 and 17 bytes, 3 and 15
+// before others that are the same, and the whole of the first.
 #[rattlefmt::skip]
 const FRONTS: [Front; 10] = [
     (b"abcdefgx", b"abcdefgy", b"\0\x08\0abcdefgx\x07\x01\0y\0\0\0\0\x01\0\0\0"),
@@ -356,7 +356,7 @@ fn malformed_blocks_are_refused(rt: HostRuntime) -> Result<(), Fail> {
     Ok(())
 }
 
-// The keys of a delete of `a` at sequence 2 and of a put at 1.
+// The keys of a delete of `a` at sequence number 2 and of a put at 1.
 const NEWER: &[u8] = b"a\0\x02\0\0\0\0\0\0";
 
 const OLDER: &[u8] = b"a\x01\x01\0\0\0\0\0\0";

@@ -14,8 +14,8 @@ const HASHES: [(&[u8], u32); 5] = [
     (b"\x61\0", 0x3186_5D38),
 ];
 
-// Keys, their filter, and a key that it denies. Key `61 00` has the bits 56, 59, 62, 1, 4 and 7, of which neither `61`
-// nor `62` has bit 56, the lowest of the last byte.
+// Keys, their filter, and a key that it denies. Key `61 00` has the bits 56, 59, 62, 1, 4 and 7, of
+// which neither `61` nor `62` has bit 56, the lowest of the last byte.
 const FILTERS: [(&[&[u8]], &[u8], &[u8]); 3] = [
     (
         &[b"\x61"],
@@ -30,7 +30,8 @@ const FILTERS: [(&[&[u8]], &[u8], &[u8]); 3] = [
     (&[], &[], b"\x61"),
 ];
 
-// Filters, and whether they admit all keys, or none: too short ones none, those of more than 30 bits a key all.
+// Filters, and whether they admit all keys, or none: too short ones none, those of more than 30
+// bits a key all.
 const PLAIN: [(&[u8], bool); 8] = [
     (&[], false),
     (&[6], false),
@@ -73,8 +74,8 @@ fn filters_admit_their_keys_and_deny_others(rt: HostRuntime) {
     one_filter();
 }
 
-// Where the blocks of keys begin, the bytes of the filter block, or how many they are, and offsets with a key each and
-// whether it may be held there.
+// Where the blocks of keys begin, the bytes of the filter block, or how many they are, and offsets
+// with a key each and whether it may be held there.
 const BLOCKS: [(&[(u64, &[u8])], &[u8], usize, &[(u64, &[u8], bool)]); 3] = [
     (
         &[],
@@ -149,12 +150,12 @@ const DAMAGED: [&[u8]; 11] = [
     // another base
     b"\0\0\0\0\x0a",
     b"\0\0\0\0\x0c",
-    // an array that begins behind the block, or one byte too late
+    // an array that begins after the block, or one byte too late
     b"\x09\0\0\0\x0b",
     b"\x01\0\0\0\x0b",
     // two bytes of an array whose offsets have four each
     b"\0\0\0\0\0\0\x0b",
-    // an offset behind the array's own, and one behind the next
+    // an offset after the array's own, and one after the next
     b"\x01\0\0\0\0\0\0\0\x0b",
     b"\x05\0\0\0\0\0\0\0\x0b",
     b"\0\x01\0\0\0\0\0\0\0\x01\0\0\0\x0b",

@@ -89,7 +89,8 @@ fn user_keys_rise_and_sequences_fall(rt: HostRuntime) {
     }
 }
 
-// Those of seven bytes and more are each the front of the next, and then each once more with another last byte.
+// Those of seven bytes and more are each the front of the next, and then each once more with
+// another last byte.
 const RISING: [&[u8]; 30] = [
     b"",
     b"\0",
@@ -167,8 +168,8 @@ fn fronts_are_of_sixteen_bytes(rt: HostRuntime) {
     }
 }
 
-// A key, how much of it the next one shares, the next one's rest, and what a quick look says where both are plain
-// byte strings and where they are internal keys.
+// A key, how much of it the next one shares, and the next one's rest. Then what a quick comparison
+// says of both as plain byte strings and as internal keys.
 const LOOKS: [(&[u8], usize, &[u8], bool, bool); 6] = [
     (
         b"ab\x01\x07\0\0\0\0\0\0",
@@ -218,7 +219,7 @@ fn a_quick_look_sees_one_byte(rt: HostRuntime) {
     }
 }
 
-// Keys, and how the first key of `a` at sequence 7 stands to each.
+// Keys, and how the first key of `a` at sequence number 7 stands to each.
 const SEEK_KEY: &[u8] = b"a\x01\x07\0\0\0\0\0\0";
 
 const SOUGHT: [(&[u8], Ordering); 4] = [
@@ -236,7 +237,7 @@ fn a_seek_key_stands_in_front_of_what_is_visible(rt: HostRuntime) {
     }
 }
 
-// The entry of `a` at sequence 1.
+// The entry of `a` at sequence number 1.
 fn entry_of(alloc: Global, value: Option<Bytes>) -> Result<Entry, AllocError> {
     let key = Bytes::copied_from(alloc, b"a")?;
     Ok(Entry {

@@ -1,4 +1,5 @@
-//! Tests of the formats: the values, bytes and refusals that LevelDB's own documents and sources have.
+//! Tests of the formats: the values, bytes and refusals that LevelDB's own documents and sources
+//! have.
 #![tactic(auto)]
 
 #[cfg(test)]

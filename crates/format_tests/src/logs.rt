@@ -3,7 +3,7 @@ use logfile::{LogWriter, Tail, judge_block, read_log};
 use std::alloc::{AllocError, Global};
 use std::test::*;
 
-// A write batch: put `a` = `1` at sequence 1.
+// A write batch: put `a` = `1` at sequence number 1.
 const BATCH: &[u8] = b"\x01\0\0\0\0\0\0\0\x01\0\0\0\x01\x01a\x011";
 
 // The log of that record: the checksum, the length and the type, and the batch.
@@ -92,8 +92,8 @@ fn a_batch_is_one_fragment(rt: HostRuntime) {
     }
 }
 
-// Where the example's log is cut, the whole records before, and the tail: whole, behind the zeros at the block's end,
-// within them, and before them.
+// Where the example's log is cut, the whole records before, and the tail: whole, after the zeros at
+// the block's end, within them, and before them.
 const CUTS: [(usize, usize, Tail); 4] = [
     (106_311, 3, Tail::Clean),
     (98_304, 2, Tail::Clean),
@@ -127,8 +127,9 @@ fn at_seven_bytes_left_a_record_begins_with_an_empty_fragment(rt: HostRuntime) -
     Ok(())
 }
 
-// Where the log ends, the record's length, how much it adds, and where the header of its first fragment is among that:
-// with room, at seven bytes left, at six bytes left, at one, and at none.
+// Where the log ends, the record's length, how much it adds, and where the header of its first
+// fragment is among that. The cases: with room, at seven bytes left, at six bytes left, at one, and
+// at none.
 const ADDED: [(u64, usize, usize, usize); 12] = [
     (0, 0, 7, 0),
     (32_761, 0, 7, 0),
@@ -144,8 +145,8 @@ const ADDED: [(u64, usize, usize, usize); 12] = [
     (32_762, 3, 16, 6),
 ];
 
-// Whether a record of that length adds so much, in a vector whose room was taken once, and, where it has no bytes, is
-// an empty full fragment.
+// Whether a record of that length adds so much, in a vector whose room was taken once, and, where
+// it has no bytes, is an empty full fragment.
 fn adds(alloc: Global, position: u64, payload: &[u8], added: usize, offset: usize) -> bool {
     matches!(
         LogWriter::encode(alloc, position, payload),
@@ -171,7 +172,8 @@ const BOUNDARIES: [usize; 9] = [
     7, 15, 1022, 32_768, 33_790, 65_536, 98_304, 131_072, 131_088,
 ];
 
-// Whether the log that is cut there has the records that end before, and is torn but at a record's end.
+// Whether the log that is cut there has the records that end before, and is torn but at a record's
+// end.
 fn reads_before(alloc: Global, log: &[u8]) -> bool {
     let end = log.len();
     let count = LENGTHS
@@ -183,7 +185,7 @@ fn reads_before(alloc: Global, log: &[u8]) -> bool {
     reads(alloc, log, LENGTHS, count, tail)
 }
 
-// Up to nine bytes before and behind.
+// Up to nine bytes before and after.
 #[test]
 fn a_cut_log_has_the_records_before_the_cut(rt: HostRuntime) -> Result<(), Fail> {
     let log = log_of(rt.alloc(), LENGTHS)?;
@@ -198,7 +200,8 @@ fn a_cut_log_has_the_records_before_the_cut(rt: HostRuntime) -> Result<(), Fail>
 
 const THREE: [&[u8]; 3] = [BATCH, b"", b"\x01\x02\x03"];
 
-// Whether the log of those records, with these bits of a byte changed, is read as fewer of them, or refused.
+// Whether the log of those records, with these bits of a byte changed, is read as fewer of them, or
+// refused.
 fn makes_no_others(alloc: Global, log: &[u8], index: usize, bits: u8) -> bool {
     let Ok(mut changed) = Vec::from_slice(alloc, log) else {
         return false;
@@ -233,8 +236,8 @@ fn a_changed_byte_never_makes_other_records(rt: HostRuntime) -> Result<(), Fail>
     Ok(())
 }
 
-// Part of a header; a header whose data is cut off, of which just the length counts, whatever the checksum and the type
-// say; a record's beginning without its end.
+// Part of a header; a header whose data is cut off, of which just the length counts, whatever the
+// checksum and the type say; a record's beginning without its end.
 const TORN: [&[u8]; 4] = [
     b"\0\0\0",
     b"\0\0\0\0\x01\0\x04",
@@ -242,8 +245,8 @@ const TORN: [&[u8]; 4] = [
     EMPTY_FIRST,
 ];
 
-// A checksum of zeros, a length past the block, two beginnings, a whole record behind one, and that record with another
-// last byte.
+// A checksum of zeros, a length past the block, two beginnings, a whole record after one, and that
+// record with another last byte.
 const DAMAGED: [(&[u8], Damage); 5] = [
     (b"\0\0\0\0\0\0\0", Damage::Checksum),
     (b"\0\0\0\0\xff\xff\x01", Damage::Length),
@@ -303,7 +306,8 @@ fn damaged_logs_are_corrupt(rt: HostRuntime) -> Result<(), Fail> {
     Ok(())
 }
 
-// What may be a block of a log by itself, whole or cut off, where fragments stand in any order; and what is none.
+// What may be a block of a log by itself, whole or cut off, where fragments stand in any order; and
+// what is none.
 const BLOCKS: [(&[u8], Option<Damage>); 8] = [
     (b"", None),
     (ONE, None),

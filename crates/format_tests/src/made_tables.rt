@@ -1,4 +1,4 @@
-// Memory tables that are made of all their entries at once, beside ones that are filled.
+// Memtables that are made of all their entries at once, beside ones that are filled.
 
 ghost use Rattle.std.specs.Prelude.{IfOk};
 ghost use Rattle.memtable.specs.Newest.{AllDiffer};

@@ -29,8 +29,9 @@ fn checksum_is_that_of_the_standard(rt: HostRuntime) {
     }
 }
 
-// Two parts, their checksum and its stored form: among them the fragment's type before a write batch that puts `1` under
-// `a` at sequence number 1, and before the version edit of a new database.
+// Two parts, their checksum and its stored form. Among them are the fragment's type before a write
+// batch that puts `1` under `a` at sequence number 1, and before the version edit of a new
+// database.
 const STORED: [(&[u8], &[u8], u32, &[u8]); 5] = [
     (b"123456789", b"", 0xE306_9283, b"\xe5\xb0\x8a\xc7"),
     (b"\x02", b"", 0xB346_23A6, b"\x64\x51\xd0\xe9"),
@@ -92,7 +93,7 @@ const FIXED64: [(u64, &[u8]); 3] = [
     (u64::MAX, &[0xFF; 8]),
 ];
 
-// Whether the number is written as the bytes, and read from them, and with a byte behind them.
+// Whether the number is written as the bytes, and read from them, and with a byte after them.
 fn is_fixed32(alloc: Global, value: u32, bytes: &[u8]) -> Result<bool, AllocError> {
     let mut out = Vec::new(alloc);
     put_fixed32(&mut out, value)?;
@@ -141,7 +142,7 @@ fn is_varint32(alloc: Global, value: u32, bytes: &[u8]) -> Result<bool, AllocErr
     Ok(out.as_slice() == bytes && get_varint32(bytes) == Some((value, bytes.len())))
 }
 
-// Read with a byte behind it.
+// Read with a byte after it.
 fn is_varint64(alloc: Global, value: u64, bytes: &[u8]) -> Result<bool, AllocError> {
     let mut out = Vec::new(alloc);
     put_varint64(&mut out, value)?;
@@ -198,7 +199,7 @@ const STRINGS: [(&[u8], &[u8]); 2] = [(b"key", b"\x03key"), (b"", b"\0")];
 
 const NO_STRINGS: [&[u8]; 5] = [b"", b"\x03ke", b"\xac", b"\x80\x00", b"\x83\x00key"];
 
-// Whether the string, of at most 300 bytes, is written so, and read with a byte behind it.
+// Whether the string, of at most 300 bytes, is written so, and read with a byte after it.
 fn is_string(alloc: Global, text: &[u8], length: usize, front: &[u8]) -> Result<bool, AllocError> {
     if text.len() > 300 {
         return Ok(false);

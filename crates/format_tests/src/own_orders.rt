@@ -1,4 +1,4 @@
-// An order of one's own: numbers as keys, by their value. `docs/ORDERS.md` explains it line by line.
+// A custom order: numbers as keys, by their value. `docs/ORDERS.md` explains it line by line.
 
 ghost use Rattle.std.specs.Prelude.{codes, length};
 ghost use Rattle.std.proofs.Common.{lit<};
@@ -13,8 +13,8 @@ use std::alloc::{AllocError, Global};
 use std::cmp::Ordering;
 use std::test::*;
 
-// The shorter key first, and of one length the first byte that differs decides. So numbers without a zero in front, in decimal as in
-// big-endian bytes, stand by their value.
+// The shorter key first, and of one length the first byte that differs decides. So numbers without
+// a zero in front, in decimal as in big-endian bytes, stand by their value.
 struct ShorterFirst;
 
 impl KeyOrder for ShorterFirst {

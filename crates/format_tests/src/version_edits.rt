@@ -15,7 +15,8 @@ const COMPARATOR: &[u8] = b"leveldb.BytewiseComparator";
 // The internal key of put(61) at sequence number 1.
 const KEY: [u8; 9] = [0x61, 1, 1, 0, 0, 0, 0, 0, 0];
 
-// The edit of a flush: log 3, next file 5, last sequence 1, and the table 4 of 176 bytes at level 0.
+// The edit of a flush: log 3, next file 5, last sequence number 1, and the table 4 of 176 bytes at
+// level 0.
 const FLUSH: [u8; 31] = [
     0x02, 0x03, 0x03, 0x05, 0x04, 0x01, 0x07, 0x00, 0x04, 0xB0, 0x01, 0x09, 0x61, 0x01, 0x01, 0, 0,
     0, 0, 0, 0, 0x09, 0x61, 0x01, 0x01, 0, 0, 0, 0, 0, 0,
@@ -218,14 +219,14 @@ const MALFORMED: [&[u8]; 25] = [
     &[
         7, 0, 0, 1, 8, 1, 1, 0, 0, 0, 0, 0, 0, 8, 1, 1, 0, 0, 0, 0, 0, 0,
     ],
-    // a last sequence of 2^56
+    // a last sequence number of 2^56
     &[4, 0x80, 0x80, 0x80, 0x80, 0x80, 0x80, 0x80, 0x80, 1],
     // strings that are cut
     &[1, 2, b'c'],
     &[
         7, 0, 4, 1, 8, 1, 1, 0, 0, 0, 0, 0, 0, 9, 1, 1, 0, 0, 0, 0, 0, 0,
     ],
-    // keys that are no internal keys: of no byte, of seven, and of a kind that there is none of
+    // keys that are no internal keys: of no byte, of seven, and of an unknown kind
     &[5, 0, 0],
     &[5, 0, 7, 1, 1, 0, 0, 0, 0, 0],
     &[5, 0, 8, 2, 1, 0, 0, 0, 0, 0, 0],
@@ -245,7 +246,7 @@ const MALFORMED: [&[u8]; 25] = [
     ],
     // a number of 2^64
     &[3, 0x80, 0x80, 0x80, 0x80, 0x80, 0x80, 0x80, 0x80, 0x80, 2],
-    // a number past the reading limit in front of a field that is cut
+    // a number past the reading limit before a field that is cut
     &[
         6, 0, 0x80, 0x80, 0x80, 0x80, 0x80, 0x80, 0x80, 0x80, 0x40, 2,
     ],
@@ -299,7 +300,7 @@ const TWO: &[u8] = &[
     0, 0, 0, 8, 1, 1, 0, 0, 0, 0, 0, 0,
 ];
 
-// The new file stands in front of the deleted one.
+// The new file stands before the deleted one.
 const MOVED: &[u8] = &[
     7, 2, 5, 1, 8, 1, 1, 0, 0, 0, 0, 0, 0, 8, 1, 1, 0, 0, 0, 0, 0, 0, 6, 1, 5,
 ];
@@ -312,7 +313,8 @@ const OTHER_ORDER: &[u8] = &[1, 1, b'c'];
 
 const OUR_ORDER: &[u8] = b"\x01\x1Aleveldb.BytewiseComparator";
 
-// The log numbers, the current one first, and the level and the number of each table; or the refusal.
+// The log numbers, the current one first, and the level and the number of each table; or the
+// refusal.
 type Left = Result<(u64, u64, &'static [(u32, u64)]), ReadError>;
 
 const ORDER: Left = Err(ReadError::Corrupt(Damage::Order));

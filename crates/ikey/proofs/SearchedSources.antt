@@ -242,7 +242,8 @@ in_row_of : (before : List (List Entry)) (entries : List Entry) (behind : List (
 in_row_of [] entries behind e i = among_front entries (joined behind) e i
 in_row_of (xs ∷ before) entries behind e i = among_back xs (joined (before ++ entries ∷ behind)) e (in_row_of before entries behind e i)
 
--- an entry of the key that comes behind one that doesn't come before what is sought: that one is of the key too, and seen
+-- an entry of the key that comes behind one that doesn't come before what is sought: that one is of
+-- the key too, and seen
 last_seen : (order : Order) (last other : Entry) (sequence : ℕ) (key : List ℕ) → (ComesBeforeSought order sequence key last → ⊥) → ComesBefore order last other → other.key ≡ key → (last.key ≡ key) × (last.sequence ≤ sequence)
 last_seen order last other sequence key not (inl less) same = absurd (not (inl (subst (λ (k : List ℕ). order.cmp last.key k ≡ Less) same less)))
 last_seen order last other sequence key not (inr h) same =

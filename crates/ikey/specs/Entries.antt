@@ -28,7 +28,8 @@ value_kept (Some value) = value
 abbrev pub internal_entry_of : Entry → InternalEntry
 internal_entry_of entry = record { key = internal_key_of entry; value = value_kept entry.value }
 
--- what a kept entry of this kind and value says of its key: the value that stands beside a delete means nothing
+-- what a kept entry of this kind and value says of its key: the value that stands beside a delete
+-- means nothing
 abbrev pub value_of : Kind → List ℕ → Option (List ℕ)
 value_of Delete value = None
 value_of Put value = Some value

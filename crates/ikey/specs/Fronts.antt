@@ -4,7 +4,8 @@ use Rattle.std.specs.declared.cmp.Ordering.{Ordering}
 use Rattle.std.specs.declared.cmp.Ordering.TheVariants.{Less, Equal, Greater}
 use Rattle.ikey.specs.declared.front.Front.{Front}
 
--- the number that goes on with so many bytes, the first of which weighs most, and with zeroes where there are fewer
+-- the number that goes on with so many bytes, the first of which weighs most, and with zeroes where
+-- there are fewer
 abbrev pub spelled : ℕ → ℕ → List ℕ → ℕ
 spelled zero n bytes = n
 spelled (suc more) n [] = spelled more (n * 256) []
@@ -21,6 +22,7 @@ Tells cmp a b Less = cmp a b ≡ Less
 Tells cmp a b Equal = ⊤
 Tells cmp a b Greater = cmp a b ≡ Greater
 
--- what two fronts tell of the keys that have them, and also of keys in which these stand behind the same bytes
+-- what two fronts tell of the keys that have them, and also of keys in which these stand behind the
+-- same bytes
 abbrev pub Decides : (List ℕ → List ℕ → Ordering) → Front → Front → Ordering → Type 0
 Decides cmp a b told = (shared x y : List ℕ) → IsFront a x → IsFront b y → Tells cmp (shared ++ x) (shared ++ y) told

@@ -1,5 +1,5 @@
--- Internal keys (LevelDB's db/dbformat.h): the user key, then the sequence number and the kind in one number
--- of eight bytes.
+-- Internal keys (LevelDB's db/dbformat.h): the user key, then the sequence number and the kind in
+-- one number of eight bytes.
 use Rattle.std.specs.Prelude.{◌≡◌, ◌≢◌, ◌<◌, ◌≤◌, ◌+◌, ◌*◌, ◌^◌, ℕ, List, ◌++◌}
 use Rattle.std.specs.declared.cmp.Ordering.{Ordering}
 use Rattle.std.specs.declared.cmp.Ordering.TheVariants.{Greater}
@@ -31,13 +31,13 @@ pub record IsKey (bytes : List ℕ) (key : Key) : Type 0 where
   pub sequence_fits : key.sequence < 2 ^ 56
   pub parts : bytes ≡ key.user ++ fixed64 (tag_of key)
 
--- the user keys up, in the given order; then the number of sequence and kind down, so the newer one comes first
--- (LevelDB's db/dbformat.cc, InternalKeyComparator)
+-- the user keys up, in the given order; then the number of sequence number and kind down, so the
+-- newer one comes first (LevelDB's db/dbformat.cc, InternalKeyComparator)
 abbrev pub key_cmp : (List ℕ → List ℕ → Ordering) → Key → Key → Ordering
 key_cmp cmp = then_cmp (on (λ (k : Key). k.user) cmp) (flip_args (on tag_of nat_cmp))
 
--- the bytes are the first internal key of this user key whose sequence number is at most `sequence`, in
--- whatever order of user keys
+-- the bytes are the first internal key of this user key whose sequence number is at most
+-- `sequence`, in whatever order of user keys
 pub record IsFirstKey (user : List ℕ) (sequence : ℕ) (bytes : List ℕ) : Type 0 where
   pub key : Key
   pub encoded : IsKey bytes key

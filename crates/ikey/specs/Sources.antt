@@ -1,4 +1,5 @@
--- Entries in several sources that are searched one after the other (LevelDB's db/version_set.cc, Version::Get).
+-- Entries in several sources that are searched one after the other (LevelDB's db/version_set.cc,
+-- Version::Get).
 use Rattle.std.specs.Prelude.{◌≡◌, ◌≢◌, ◌⊎◌, ◌<◌, ◌↔◌, ℕ, Option, Some, None, List, [], ◌∷◌, ◌++◌}
 use Rattle.std.specs.List.{AllByRecursion}
 use Rattle.std.specs.Cmp.{IsTotalOrder}
@@ -36,7 +37,8 @@ AreUnseen sources sequence key = AllByRecursion (λ (source : List Entry). IsUns
 abbrev pub SameEntries : List Entry → List Entry → Type 0
 SameEntries xs ys = (entry : Entry) → Among xs entry ↔ Among ys entry
 
--- what a search for a key in one source tells: nothing where it isn't seen, and else what its newest entry put
+-- what a search for a key in one source tells: nothing where it isn't seen, and else what its
+-- newest entry put
 abbrev pub IsAnswer : List Entry → ℕ → List ℕ → Option (Option (List ℕ)) → Type 0
 IsAnswer source sequence key None = IsUnseen source sequence key
 IsAnswer source sequence key (Some value) = (entry : Entry) × IsNewest source sequence entry × (entry.key ≡ key) × (value ≡ entry.value)
@@ -52,7 +54,8 @@ abbrev pub BehindLaw : Type 0
 BehindLaw = (front back : List Entry) (sequence : ℕ) (key : List ℕ) (value : Option (List ℕ)) → IsUnseen front sequence key
     → IsValueAt back sequence key value → IsValueAt (front ++ back) sequence key value
 
--- The first source that has an answer answers for all, and a source between the others may be passed over.
+-- The first source that has an answer answers for all, and a source between the others may be
+-- passed over.
 abbrev pub FoundLaw : Type 0
 FoundLaw = (front : List (List Entry)) (source : List Entry) (behind : List (List Entry)) (sequence : ℕ) (key : List ℕ) (value : Option (List ℕ))
     → AreSearched (front ++ source ∷ behind) → AreUnseen front sequence key → IsAnswer source sequence key (Some value)
@@ -68,7 +71,7 @@ MissedLaw = (sources : List (List Entry)) (sequence : ℕ) (key : List ℕ) → 
 abbrev pub ByTwoLaw : Type 0
 ByTwoLaw = (sources : List (List Entry)) → AreSearched sources ↔ AreSearchedByTwo sources
 
--- New entries, above all sequences, may be put into the first source.
+-- New entries, above all sequence numbers, may be put into the first source.
 abbrev pub GrownLaw : Type 0
 GrownLaw = (first more : List Entry) (sources : List (List Entry)) (used : ℕ) → AreSearched (first ∷ sources) → AllUpTo used (joined (first ∷ sources))
     → ((entry : Entry) → Among more entry → used < entry.sequence) → AreSearched ((first ++ more) ∷ sources)
@@ -89,16 +92,18 @@ SameViewLaw = (xs ys : List Entry) (sequence : ℕ) → SameEntries xs ys → ((
 abbrev pub ComesBefore : Order → Entry → Entry → Type 0
 ComesBefore order a b = (order.cmp a.key b.key ≡ Less) ⊎ ((a.key ≡ b.key) × (b.sequence < a.sequence))
 
--- each entry comes before all behind it, so that no two share a key and a sequence
+-- each entry comes before all behind it, so that no two share a key and a sequence number
 abbrev pub AreSorted : Order → List Entry → Type 0
 AreSorted order [] = Unit {0}
 AreSorted order (entry ∷ entries) = ((other : Entry) → Among entries other → ComesBefore order entry other) × AreSorted order entries
 
--- the entry comes before what is sought: its key does, or it is an entry of the key above the sequence
+-- the entry comes before what is sought: its key does, or it is an entry of the key above the
+-- sequence number
 abbrev pub ComesBeforeSought : Order → ℕ → List ℕ → Entry → Type 0
 ComesBeforeSought order sequence key entry = (order.cmp entry.key key ≡ Less) ⊎ ((entry.key ≡ key) × (sequence < entry.sequence))
 
--- The first entry of a sorted source that doesn't come before what is sought is the newest one of its key, or the key isn't seen.
+-- The first entry of a sorted source that doesn't come before what is sought is the newest one of
+-- its key, or the key isn't seen.
 abbrev pub SoughtLaw : Type 0
 SoughtLaw = (order : Order) (front : List Entry) (entry : Entry) (back : List Entry) (sequence : ℕ) (key : List ℕ) → IsTotalOrder order.cmp
     → AreSorted order (front ++ entry ∷ back) → AllByRecursion (ComesBeforeSought order sequence key) front → (ComesBeforeSought order sequence key entry → ⊥)
@@ -124,7 +129,8 @@ AreInRow order (entries ∷ lists) = AreSorted order entries × AllByRecursion (
 abbrev pub RowLaw : Type 0
 RowLaw = (order : Order) (lists : List (List Entry)) → AreInRow order lists → AreSorted order (joined lists)
 
--- Where all lists in front come before what is sought, and an entry of this one doesn't, a search in this one is a search in all.
+-- Where all lists in front come before what is sought, and an entry of this one doesn't, a search
+-- in this one is a search in all.
 abbrev pub RowAnswerLaw : Type 0
 RowAnswerLaw = (order : Order) (before : List (List Entry)) (entries : List Entry) (behind : List (List Entry)) (last : Entry) (sequence : ℕ) (key : List ℕ) (answer : Option (Option (List ℕ)))
     → IsTotalOrder order.cmp → AreInRow order (before ++ entries ∷ behind) → AllByRecursion (AllByRecursion (ComesBeforeSought order sequence key)) before

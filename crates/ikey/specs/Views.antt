@@ -1,4 +1,5 @@
--- Entries as sets, and what a reader sees of them at a sequence (LevelDB's doc/index.md, "Snapshots").
+-- Entries as sets, and what a reader sees of them at a sequence number (LevelDB's doc/index.md,
+-- "Snapshots").
 use Rattle.std.specs.Prelude.{◌≡◌, ◌⊎◌, ◌<◌, ◌≤◌, ℕ, Option, None, List, [], ◌∷◌}
 use Rattle.std.proofs.Common.{inl, inr, sym, ap, ◌∙◌}
 use Rattle.std.specs.Ordering.{nat_cmp}
@@ -15,7 +16,7 @@ Among (first ∷ list) x = (x ≡ first) ⊎ Among list x
 abbrev pub Contents : Type 0
 Contents = FinMap (slice_cmp nat_cmp) (List ℕ)
 
--- of the entries of its key up to this sequence the entry has the greatest
+-- of the entries of its key up to this sequence number the entry has the greatest
 pub record IsNewest (entries : List Entry) (sequence : ℕ) (entry : Entry) : Type 0 where
   pub member : Among entries entry
   pub seen : entry.sequence ≤ sequence
@@ -25,12 +26,12 @@ pub record IsNewest (entries : List Entry) (sequence : ℕ) (entry : Entry) : Ty
 abbrev pub IsUnseen : List Entry → ℕ → List ℕ → Type 0
 IsUnseen entries sequence key = (entry : Entry) → Among entries entry → entry.key ≡ key → sequence < entry.sequence
 
--- The map has of each key what its newest entry up to this sequence put.
+-- The map has of each key what its newest entry up to this sequence number put.
 pub record IsView (entries : List Entry) (sequence : ℕ) (map : Contents) : Type 0 where
   pub found : (entry : Entry) → IsNewest entries sequence entry → get map entry.key ≡ entry.value
   pub missing : (key : List ℕ) → IsUnseen entries sequence key → get map key ≡ None
 
--- no sequence is above this one
+-- no sequence number is above this one
 abbrev pub AllUpTo : ℕ → List Entry → Type 0
 AllUpTo sequence entries = (entry : Entry) → Among entries entry → entry.sequence ≤ sequence
 

@@ -8,9 +8,9 @@ ghost use Rattle.ikey.specs.Words.{big_endian};
 
 use std::cmp::Ordering;
 
-/// The order of the first byte that differs, where a proper prefix comes first. Eight bytes are compared as one number,
-/// the first of which weighs most. So are the last eight that both have, though some of them were compared before: these
-/// are equal, and an equal front decides nothing.
+/// Compares by the first byte that differs; a proper prefix comes first. Eight bytes are compared
+/// as one number, the first of which weighs most. So are the last eight that both have, though some
+/// of them were compared before: these are equal, and an equal front decides nothing.
 #[inline(always)]
 pub fn compare_bytes(a: &[u8], b: &[u8]) -> Ordering
     ensures { result ≡ slice_cmp nat_cmp a.now b.now }
@@ -37,8 +37,8 @@ fn compare_short(a: &[u8], b: &[u8]) -> Ordering
     a.cmp(b)
 }
 
-// The same where the first words are equal. Up to sixteen bytes the second word is the last one, so that no loop is
-// needed; and of longer keys mostly one of two words decides.
+// The same if the first words are equal. Up to sixteen bytes the second word is the last one, so
+// that no loop is needed; of longer keys mostly one of two words decides.
 #[inline(always)]
 fn compare_second(a: &[u8], b: &[u8]) -> Ordering
     requires a_has_word { 8 ≤ length a.now }
@@ -62,7 +62,7 @@ fn compare_second(a: &[u8], b: &[u8]) -> Ordering
     compare_rest(a, b)
 }
 
-// The same where the first two words are equal, and more follows.
+// The same if the first two words are equal, and more follows.
 #[inline(never)]
 fn compare_rest(a: &[u8], b: &[u8]) -> Ordering
     requires a_has_words { 16 ≤ length a.now }
@@ -86,7 +86,7 @@ fn compare_rest(a: &[u8], b: &[u8]) -> Ordering
     compare_last(a, b, last)
 }
 
-// The same where all in front of the shorter one's last word is equal.
+// The same if all before the shorter one's last word is equal.
 #[inline(always)]
 fn compare_last(a: &[u8], b: &[u8], last: usize) -> Ordering
     requires is_last { last + 8 ≡ min (length a.now) (length b.now) }
@@ -104,7 +104,8 @@ fn compare_last(a: &[u8], b: &[u8], last: usize) -> Ordering
     a.len().cmp(&b.len())
 }
 
-// The number that eight bytes spell. The slice of just eight leaves no test of its length for run time.
+// The number that eight bytes spell. The slice of just eight leaves no test of its length for run
+// time.
 #[inline(always)]
 fn word_at(bytes: &[u8], at: usize) -> u64
     requires { at + 8 ≤ length bytes.now }
@@ -117,8 +118,8 @@ fn word_at(bytes: &[u8], at: usize) -> u64
     u64::from_be_bytes(*word)
 }
 
-/// Whether the byte of `a` at `shared` is smaller than the first of `rest`: then `a` comes before its first `shared`
-/// bytes and `rest`. Where one of the two isn't there, the answer is false.
+/// Returns whether the byte of `a` at `shared` is smaller than the first of `rest`: then `a` comes
+/// before its first `shared` bytes and `rest`. If one of the two isn't there, false.
 #[inline(always)]
 pub fn is_less_behind(a: &[u8], shared: usize, rest: &[u8]) -> bool
     ensures { MatchBool result (slice_cmp nat_cmp a.now (take shared a.now ++ rest.now) ≡ Less) ⊤ }

@@ -8,7 +8,7 @@ use crate::internal_key::{Kind, pack};
 use coding::Bytes;
 use std::alloc::{AllocError, Global};
 
-/// What was put at a key, or that it was deleted, and when.
+/// Holds what was put at a key, or that it was deleted, and when.
 #[derive(Debug, PartialEq, Drop)]
 pub struct Entry {
     /// The user key.
@@ -20,7 +20,7 @@ pub struct Entry {
 }
 
 impl Entry {
-    /// What the entry does to its key.
+    /// Returns what the entry does to its key.
     pub fn kind(&self) -> Kind
         ensures { result ≡ kind_of self.now.value }
     {
@@ -30,7 +30,7 @@ impl Entry {
         }
     }
 
-    /// The bytes of the entry's internal key, under which memory and tables keep it.
+    /// Returns the bytes of the entry's internal key, under which memory and tables keep it.
     pub fn internal_key(&self, alloc: Global) -> Result<Vec<u8>, AllocError>
         requires { self.now.sequence < 2 ^ 56 }
         ensures { IfOk result (λ bytes. IsKey bytes.items (internal_key_of self.now)) }

@@ -7,15 +7,15 @@ ghost use Rattle.ikey.specs.Fronts.{IsFront, Decides};
 
 use std::cmp::Ordering;
 
-/// The number that the first sixteen bytes of a key spell, the first of which weighs most. A shorter key goes on with
-/// zeroes.
+/// Holds the number that the first sixteen bytes of a key spell, the first of which weighs most. A
+/// shorter key goes on with zeroes.
 #[derive(Clone, Copy)]
 pub struct Front {
     number: u128,
 }
 
 impl Front {
-    /// The front of a key.
+    /// Returns the front of a key.
     #[inline(always)]
     pub fn of(key: &[u8]) -> Self
         ensures { IsFront result key.now }
@@ -39,8 +39,8 @@ impl Front {
         Front { number }
     }
 
-    /// How two fronts compare: where they differ, so do the keys in the order of bytes, and also where both stand behind
-    /// the same bytes. Equal ones say nothing.
+    /// Compares two fronts. If they differ, the keys compare in the same way in the order of bytes,
+    /// and also after a common prefix. Equal ones say nothing.
     #[inline(always)]
     pub fn compare_bytes(self, other: Self) -> Ordering
         ensures { Decides (slice_cmp nat_cmp) self other result }
@@ -55,7 +55,7 @@ impl Front {
     }
 }
 
-// The byte at an index, or zero behind the end.
+// The byte at an index, or zero after the end.
 #[inline(always)]
 fn byte_at(bytes: &[u8], index: usize) -> u8
     ensures { result ≡ get_or bytes.now index 0 }

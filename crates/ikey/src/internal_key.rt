@@ -12,10 +12,10 @@ use coding::{get_fixed64, put_fixed64};
 use std::alloc::{AllocError, Global};
 use std::cmp::Ordering;
 
-// The bytes of the sequence number and the kind, which stand behind a user key.
+// The bytes of the sequence number and the kind, which follow a user key.
 const TAG_LENGTH: usize = 8;
 
-/// What an entry does to its user key (LevelDB's db/dbformat.h, ValueType).
+/// Tells what an entry does to its user key (LevelDB's db/dbformat.h, ValueType).
 #[derive(Clone, Copy, Debug, PartialEq, Eq)]
 pub enum Kind {
     /// It takes the key away. Its number in a file is 0.
@@ -24,7 +24,7 @@ pub enum Kind {
     Put,
 }
 
-/// A user key with the sequence number and the kind of one write to it.
+/// Holds a user key with the sequence number and the kind of one write to it.
 #[derive(Clone, Copy, Debug, PartialEq, Eq)]
 pub struct InternalKey<'a> {
     pub user: &'a [u8],
@@ -32,8 +32,8 @@ pub struct InternalKey<'a> {
     pub kind: Kind,
 }
 
-/// The bytes of an internal key: the user key, and eight bytes with the sequence number and the kind
-/// (LevelDB's db/dbformat.h, AppendInternalKey). It fails only where memory does.
+/// Returns the bytes of an internal key: the user key, and eight bytes with the sequence number and
+/// the kind (LevelDB's db/dbformat.h, AppendInternalKey). It fails only out of memory.
 pub fn pack(alloc: Global, user: &[u8], sequence: u64, kind: Kind) -> Result<Vec<u8>, AllocError>
     requires { sequence < 2 ^ 56 }
     ensures { IfOk result (λ bytes. IsKey bytes.items (record { user = user.now; sequence = sequence; kind = kind })) }
@@ -54,8 +54,9 @@ fn tag_of(sequence: u64, kind: Kind) -> u64
     }
 }
 
-/// The internal key that the bytes are, where they are one: they are none where there are fewer than eight,
-/// or the kind is neither 0 nor 1 (LevelDB's db/dbformat.h, ParseInternalKey). The user key is a part of the bytes.
+/// Returns the internal key that the bytes are; its user key is a part of them (LevelDB's
+/// db/dbformat.h, ParseInternalKey). None: there are fewer than eight bytes, or the kind is neither
+/// 0 nor 1.
 pub fn unpack(bytes: &[u8]) -> Option<InternalKey<'_>>
     ensures range { IfSome result (λ key. key.sequence < 2 ^ 56) }
     ensures found { IfSome result (λ key. IsKey bytes.now (key_of key)) }
@@ -84,8 +85,8 @@ fn kind_of(number: u64) -> Option<Kind>
     }
 }
 
-/// The order of two internal keys by their bytes: the user keys up, and then the newer one first (LevelDB's
-/// db/dbformat.cc, InternalKeyComparator). None where one of them is no internal key.
+/// Compares two internal keys by their bytes: the user keys up, and then the newer one first
+/// (LevelDB's db/dbformat.cc, InternalKeyComparator). None: one of them is no internal key.
 pub fn compare_keys<K: KeyOrder>(a: &[u8], b: &[u8]) -> Option<Ordering>
     ensures { MatchOption result
         ((k l : Key) → IsKey a.now k → IsKey b.now l → ⊥)
@@ -99,8 +100,8 @@ pub fn compare_keys<K: KeyOrder>(a: &[u8], b: &[u8]) -> Option<Ordering>
     }
 }
 
-/// The first internal key of this user key whose sequence number is at most `sequence`, in whatever order of
-/// user keys (LevelDB's db/dbformat.cc, LookupKey). It fails only where memory does.
+/// Returns the first internal key of this user key whose sequence number is at most `sequence`, in
+/// whatever order of user keys (LevelDB's db/dbformat.cc, LookupKey). It fails only out of memory.
 pub fn seek_key(alloc: Global, user: &[u8], sequence: u64) -> Result<Vec<u8>, AllocError>
     requires { sequence < 2 ^ 56 }
     ensures { IfOk result (λ bytes. IsFirstKey user.now sequence bytes.items) }
@@ -108,7 +109,7 @@ pub fn seek_key(alloc: Global, user: &[u8], sequence: u64) -> Result<Vec<u8>, Al
     pack(alloc, user, sequence, Kind::Put)
 }
 
-/// Law: no bytes are two internal keys.
+/// Proves that no bytes are two internal keys.
 pub fn one_key()
     ensures { (bytes : List ℕ) (k l : Key) → IsKey bytes k → IsKey bytes l → k ≡ l }
 {}

@@ -40,8 +40,8 @@ impl PartialOrd for InternalKey<'_> {
     }
 }
 
-// The newer write first, and of one sequence number a put before a delete: as their numbers in eight bytes fall,
-// and also where the sequence number doesn't fit into these.
+// The newer write first, and of one sequence number a put before a delete, as their numbers in
+// eight bytes fall. The same holds if the sequence number doesn't fit into these.
 fn newer_first(a: &InternalKey<'_>, b: &InternalKey<'_>) -> Ordering
     ensures { result ≡ nat_cmp (tag_of (key_of b.now)) (tag_of (key_of a.now)) }
 {

@@ -14,30 +14,32 @@ use crate::byte_order::{compare_bytes, is_less_behind};
 use crate::front::Front;
 use std::cmp::Ordering;
 
-/// A total order of byte strings, with the name under which a database records it.
+/// Orders byte strings totally, with the name under which a database records the order.
 pub trait KeyOrder {
     ghost name: { List ℕ };
 
     ghost cmp: { List ℕ → List ℕ → Ordering };
 
-    /// The name that a MANIFEST records. A database under another name has another order.
+    /// Returns the name that a MANIFEST records. A database under another name has another order.
     fn name() -> &'static str
         ensures { result.now ≡ name };
 
-    /// How two user keys compare.
+    /// Compares two user keys.
     fn compare(a: &[u8], b: &[u8]) -> Ordering
         ensures { result ≡ cmp a.now b.now };
 
-    /// A quick look at the first byte of `rest`: true says that `a` is below the key of its first `shared` bytes and
-    /// `rest`, and false says nothing, which is what an order says that has no such look.
+    /// Compares with the first byte of `rest` alone. True says that `a` is below the key of its
+    /// first `shared` bytes and `rest`. False says nothing; an order without such a comparison says
+    /// that.
     fn is_plainly_below(a: &[u8], shared: usize, rest: &[u8]) -> bool
         ensures { MatchBool result (cmp a.now (take shared a.now ++ rest.now) ≡ Less) ⊤ }
     {
         false
     }
 
-    /// A quick look at the fronts of two keys: Less and Greater say how these compare, and also how they do behind the same
-    /// bytes. Equal says nothing, which is what an order says that has no such look.
+    /// Compares the fronts of two keys. Less and Greater say how the keys compare, and also how
+    /// they do after a common prefix. Equal says nothing; an order without such a comparison says
+    /// that.
     fn compare_fronts(a: Front, b: Front) -> Ordering
         ensures { Decides cmp a b result }
     {
@@ -53,7 +55,7 @@ pub trait KeyOrder {
     ghost name_fits: { length name < 2 ^ 32 };
 }
 
-/// The first byte that differs decides, and a proper prefix comes first.
+/// Orders by the first byte that differs; a proper prefix comes first.
 pub struct Bytewise;
 
 impl KeyOrder for Bytewise {

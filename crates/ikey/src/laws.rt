@@ -2,62 +2,65 @@
 
 ghost use Rattle.ikey.specs.Sources.{FrontLaw, BehindLaw, FoundLaw, MissedLaw, ByTwoLaw, GrownLaw, ReplacedLaw, SameViewLaw, SoughtLaw, AllBeforeLaw, RowLaw, RowAnswerLaw};
 
-/// Law: the newest entry of a source that is newer than what lies behind is that of both.
+/// Proves that the newest entry of a source is that of both, if the source is newer than the other.
 pub fn newest_in_front()
     ensures { FrontLaw }
 {}
 
-/// Law: a key that isn't seen in front has the value that it has behind.
+/// Proves that a key that isn't seen in the first source has the value that it has in the later
+/// one.
 pub fn unseen_in_front()
     ensures { BehindLaw }
 {}
 
-/// Law: of sources each of which is newer than those behind it, the first that has an answer answers for all.
+/// Proves that of sources each of which is newer than the later ones, the first that has an answer
+/// answers for all.
 pub fn first_found()
     ensures { FoundLaw }
 {}
 
-/// Law: a key that is seen in no source has no value.
+/// Proves that a key that is seen in no source has no value.
 pub fn none_found()
     ensures { MissedLaw }
 {}
 
-/// Law: sources may be compared by two.
+/// Proves that sources may be compared by two.
 pub fn searched_by_two()
     ensures { ByTwoLaw }
 {}
 
-/// Law: what is written may go into the first source.
+/// Proves that what is written may go into the first source.
 pub fn searched_when_grown()
     ensures { GrownLaw }
 {}
 
-/// Law: a source may be replaced by one with the same entries.
+/// Proves that a source may be replaced by one with the same entries.
 pub fn searched_when_replaced()
     ensures { ReplacedLaw }
 {}
 
-/// Law: the same entries have the same views.
+/// Proves that the same entries have the same views.
 pub fn same_view()
     ensures { SameViewLaw }
 {}
 
-/// Law: a search in a sorted source ends at the newest entry of the key, if it is seen.
+/// Proves that a search in a sorted source ends at the newest entry of the key, if it is seen.
 pub fn sought_in_order()
     ensures { SoughtLaw }
 {}
 
-/// Law: a search in a sorted source that ends behind all entries has seen none of the key.
+/// Proves that a search in a sorted source that ends after all entries has seen none of the key.
 pub fn all_come_before()
     ensures { AllBeforeLaw }
 {}
 
-/// Law: sorted sources in a row are a sorted one.
+/// Proves that consecutive sorted sources are a sorted one.
 pub fn sorted_in_row()
     ensures { RowLaw }
 {}
 
-/// Law: a search in the first of them that doesn't end before what is sought is a search in all.
+/// Proves that a search in the first of them that doesn't end before what is sought is a search in
+/// all.
 pub fn answered_in_row()
     ensures { RowAnswerLaw }
 {}

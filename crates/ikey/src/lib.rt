@@ -1,4 +1,5 @@
-//! Entries and their internal keys: a user key, the sequence number of a write and its kind; and the orders of keys.
+//! Entries and their internal keys: a user key, the sequence number of a write and its kind; and
+//! the orders of keys.
 #![tactic(auto)]
 
 mod byte_equality;

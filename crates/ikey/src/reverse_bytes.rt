@@ -13,7 +13,7 @@ use crate::front::Front;
 use crate::key_order::KeyOrder;
 use std::cmp::Ordering;
 
-/// The first byte that differs decides, the greater one first, and a proper prefix comes last.
+/// Orders by the first byte that differs, the greater one first; a proper prefix comes last.
 pub struct ReverseBytes;
 
 impl KeyOrder for ReverseBytes {

@@ -264,7 +264,8 @@ module _ (order : Order) (total : IsTotalOrder order.cmp) where
     | inr later ↦ whole_all source contents sound has.1 placed later cut torn
   ]
 
-  -- A cursor that has opened none of the tables of a consistent directory comes to no block that is none.
+  -- A cursor that has opened none of the tables of a consistent directory comes to no block that is
+  -- none.
   pub row_whole : {K : Type 0} {g : _} (source : Seen) (contents : List TableContent) → IsSound order.cmp source → HasTables order source.facts.files contents → (cursor : RowCursor K g) → rows_tables cursor ≡ placed_of contents → cursor.here ≡ None
       → (cut : Cut) → IsRowTorn order.cmp source cursor cut → ⊥
   row_whole {K} {g} source contents sound has cursor e nowhere cut (inl one) =

@@ -88,7 +88,8 @@ module _ (cmp : Cmp) (total : IsTotalOrder cmp) (key : Key) where
       let rest = front_below lists k list (rises_behind x (joined lists) rises) e some all in
       omega (arith, whole, rest)
 
-  -- A seek that begins at the first table that doesn't end below the key finds the first entry that isn't below it.
+  -- A seek that begins at the first table that doesn't end below the key finds the first entry that
+  -- isn't below it.
   pub reaches : (source : Seen) (row : List PlacedTable) (lists : List (List InternalEntry)) (target : List ℕ) (start : ℕ) → IsKey target key → HaveLists cmp source row lists → Rises cmp (joined lists)
       → IsFirstTable cmp target row start → leading (is_below cmp key) (joined lists) ≡ entries_before lists start + leading (is_below cmp key) (joined (drop start lists))
   reaches source row lists target zero is have rises first = let none = before_zero lists in omega (arith, none)

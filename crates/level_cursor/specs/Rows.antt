@@ -15,7 +15,8 @@ use Rattle.version_laws.specs.Places.{FitsEdit, MayHold}
 
 -- ---- what the tables may have
 
--- As far as their blocks tell the files may be these tables, with such entries, each of which fit their edit.
+-- As far as their blocks tell the files may be these tables, with such entries, each of which fit
+-- their edit.
 abbrev pub MayBeTables : Order → Files → List TableContent → Type 0
 MayBeTables order files contents = AllByRecursion (λ (content : TableContent). MayHold (MayBeTable order.cmp) files content × FitsEdit order content) contents
 
@@ -40,7 +41,8 @@ row_stands cursor = table_stands cursor.here
 abbrev pub IsRowLimited : {K : Type 0} {g : _} → Cmp → Seen → RowCursor K g → Type 0
 IsRowLimited cmp source cursor = IsOneLimited cmp source (rows_tables cursor) ⊎ IsOpenLimited cursor.here
 
--- a table of the row, in which the cut lies, has a damaged frame, or a block that is none at the cut
+-- a table of the row, in which the cut lies, has a damaged frame, or a block that is none at the
+-- cut
 abbrev pub IsRowTorn : {K : Type 0} {g : _} → Cmp → Seen → RowCursor K g → Cut → Type 0
 IsRowTorn cmp source cursor cut = IsOneTorn cmp source (rows_tables cursor) cut ⊎ IsOpenTorn cmp source (rows_tables cursor) cursor.here cut
 

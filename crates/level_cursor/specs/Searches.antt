@@ -29,7 +29,8 @@ abbrev pub aimed_cut : Option Key → Cut
 aimed_cut None = Front
 aimed_cut (Some key) = Below key
 
--- A search on that begins at the table of this index ends in its list: the cut lies there, as the one that is aimed at does.
+-- A search on that begins at the table of this index ends in its list: the cut lies there, as the
+-- one that is aimed at does.
 pub record EndsIn (cmp : Cmp) (row : List PlacedTable) (index : ℕ) (list : List InternalEntry) (goal : Option Key) (cut : Cut) : Type 0 where
   pub lies : LiesIn cmp row index cut
   pub same : SameCut cmp list (aimed_cut goal) cut
@@ -59,15 +60,16 @@ IsSameTable None None = Unit {0}
 IsSameTable (Some old) (Some new) = (new.cursor.placed ≡ old.cursor.placed) × (new.cursor.table.value.frame ≡ old.cursor.table.value.frame) × (new.index ≡ old.index)
 IsSameTable old new = ⊥
 
--- It has gone on to the entry behind; or it stays, and the entry behind is the first from this table on, or it was refused.
+-- It has gone on to the entry behind; or it stays, and the entry behind is the first from this
+-- table on, or it was refused.
 abbrev pub RowStepsOn : {K : Type 0} {g : _} → Cmp → Seen → List (List InternalEntry) → Option (InTable K g) → Option ℕ → Result (Option ℕ) DbError → Type 0
 RowStepsOn cmp source lists new place (Ok None) = IsPlacedRow cmp source lists new (option_and_then (index_behind (joined lists)) place)
 RowStepsOn cmp source lists new place (Ok (Some start)) =
     IsPlacedRow cmp source lists new place × (start ≤ length lists) × (within (joined lists) (entries_before lists start) ≡ option_and_then (index_behind (joined lists)) place)
 RowStepsOn cmp source lists new place (Err error) = IsPlacedRow cmp source lists new place
 
--- It has gone back to the entry in front; or it stays, and the entry in front is the last of the tables in front of this
--- one, or it was refused.
+-- It has gone back to the entry in front; or it stays, and the entry in front is the last of the
+-- tables in front of this one, or it was refused.
 abbrev pub RowStepsBack : {K : Type 0} {g : _} → Cmp → Seen → List (List InternalEntry) → Option (InTable K g) → Option ℕ → Result (Option ℕ) DbError → Type 0
 RowStepsBack cmp source lists new place (Ok None) = IsPlacedRow cmp source lists new (option_and_then index_before place)
 RowStepsBack cmp source lists new place (Ok (Some end)) =

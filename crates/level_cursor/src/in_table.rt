@@ -5,7 +5,7 @@ ghost use Rattle.std.specs.Prelude.{◌<◌, ◌+◌, ◌^◌};
 use ikey::KeyOrder;
 use table_access::TableCursor;
 
-/// A cursor in one of the tables of a row.
+/// Holds a cursor in one of the consecutive tables.
 #[derive(Drop)]
 pub struct InTable<K: KeyOrder> {
     /// The index of the table among those of the row.

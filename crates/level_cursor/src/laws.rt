@@ -13,7 +13,8 @@ ghost use Rattle.table_access.specs.Tables.{IsSound, Seen};
 
 use ikey::KeyOrder;
 
-/// Law: a cursor over tables whose entries lie in a row begins with their list, whichever entries they may have, and stands nowhere.
+/// Proves that a cursor over tables whose entries lie in a row begins with their list, whichever
+/// entries they may have, and stands nowhere.
 pub fn row_begins<K: KeyOrder>()
     ensures { (source : Seen) (contents : List TableContent) → IsSound K.cmp source
         → MayBeTables (order_of K.name K.cmp) source.facts.files contents → AreInRow (order_of K.name K.cmp) (lists_of contents)

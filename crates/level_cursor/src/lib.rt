@@ -1,5 +1,5 @@
-//! A cursor over tables in a row, as those of a level below 0 lie (LevelDB's db/version_set.cc, LevelFileNumIterator,
-//! under table/two_level_iterator.cc).
+//! A cursor over tables in a row, as those of a level below 0 lie (LevelDB's db/version_set.cc,
+//! LevelFileNumIterator, under table/two_level_iterator.cc).
 #![tactic(auto)]
 
 mod in_table;

@@ -22,8 +22,8 @@ use store::Store;
 use table_access::Tables;
 use versions::Version;
 
-/// A cursor over some tables of a version that lie in a row, as those of a level below 0 do, and over the entries of all. A
-/// table is opened when it is reached, and let go when the cursor leaves it.
+/// Holds a cursor over the entries of consecutive tables of a version, as those of a level below 0.
+/// A table is opened when it is reached, and released when the cursor leaves it.
 #[derive(Drop)]
 pub struct RowCursor<K: KeyOrder> {
     version: Rc<Version<K>>,
@@ -37,8 +37,8 @@ impl<K: KeyOrder> RowCursor<K> {
     ghost use Rattle.std.specs.Prelude.{◌≡◌, ◌≤◌, None, length};
     ghost use Rattle.level_cursor.specs.Rows.{row_of};
 
-    /// A cursor over the tables of the version from the first index on, up to the second. It stands nowhere. It takes no
-    /// memory, and opens nothing.
+    /// Makes a cursor over the tables of the version from the first index on, up to the second. It
+    /// stands nowhere. It takes no memory, and opens nothing.
     pub fn over(version: Rc<Version<K>>, from: usize, end: usize) -> Self
         requires order { from ≤ end }
         requires within { end ≤ length version.value.tables }
@@ -172,7 +172,8 @@ impl<K: KeyOrder, S: Store> Cursor<K, Tables<K, S>> for RowCursor<K> {
     ghost leaves_more = { λ fewer more old new less k. carries_more K.cmp _ _ less k };
 }
 
-// One step on within the table. On its last entry nothing moves, and the answer is the index of the table behind.
+// One step on within the table. On its last entry nothing moves, and the answer is the index of the
+// next table.
 fn step_on<K: KeyOrder, S: Store>(
     here: &mut Option<InTable<K>>,
     alloc: Global,
@@ -198,7 +199,8 @@ fn step_on<K: KeyOrder, S: Store>(
     Ok(Some(here.index + 1))
 }
 
-// One step back within the table. On its first entry nothing moves, and the answer is the index of the table.
+// One step back within the table. On its first entry nothing moves, and the answer is the index of
+// the table.
 fn step_back<K: KeyOrder, S: Store>(
     here: &mut Option<InTable<K>>,
     alloc: Global,

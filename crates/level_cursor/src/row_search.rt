@@ -1,4 +1,5 @@
-//! Searches over the tables of a row (LevelDB's table/two_level_iterator.cc, SkipEmptyDataBlocksForward and its counterpart).
+//! Searches over the tables of a row (LevelDB's table/two_level_iterator.cc,
+//! SkipEmptyDataBlocksForward and its counterpart).
 
 ghost use Rattle.std.specs.Prelude.{◌≡◌, ◌<◌, ◌≤◌, ◌^◌, ◌+◌, ℕ, suc, List, Option, None};
 ghost use Rattle.std.specs.Prelude.{Some, drop, length, slice_get, IsTrue, IfSome, IfOk, IfErr};
@@ -24,7 +25,7 @@ use std::alloc::Global;
 use store::Store;
 use table_access::{TableCursor, Tables};
 
-/// What a search on looks for.
+/// Tells what a search on looks for.
 #[derive(Clone, Copy)]
 pub enum Aim<'a> {
     /// The first entry.
@@ -33,8 +34,8 @@ pub enum Aim<'a> {
     From(&'a [u8]),
 }
 
-/// Looks on from a table for an entry: the table that has it, and a cursor there. Corrupt, where one to which it comes
-/// is torn there; Unsupported, where one passes a limit of reading.
+/// Looks on from a table for an entry: the table that has it, and a cursor there. Corrupt: one to
+/// which it comes is torn there. Unsupported: one passes a limit of reading.
 pub fn search_on<K: KeyOrder, S: Store>(
     alloc: Global,
     source: &mut Tables<K, S>,
@@ -66,7 +67,7 @@ pub fn search_on<K: KeyOrder, S: Store>(
     Ok(None)
 }
 
-/// Looks for the last entry of the tables in front of one. Corrupt and Unsupported as `search_on`.
+/// Looks for the last entry of the tables before one. Corrupt and Unsupported as `search_on`.
 pub fn search_back<K: KeyOrder, S: Store>(
     alloc: Global,
     source: &mut Tables<K, S>,
@@ -99,8 +100,8 @@ pub fn search_back<K: KeyOrder, S: Store>(
     Ok(None)
 }
 
-/// The index of the first table that doesn't end below the key, an internal one (LevelDB's db/version_set.cc, FindFile).
-/// Where the tables lie in no row it is some index.
+/// Returns the index of the first table that doesn't end below the key, an internal one (LevelDB's
+/// db/version_set.cc, FindFile). If the tables aren't in the order of their keys it is some index.
 pub fn first_table<K: KeyOrder>(row: &[PlacedTable], target: &[u8]) -> usize
     ensures { IsFirstTable K.cmp target.now row.now result }
 {

@@ -1,5 +1,5 @@
--- Why a command is refused for what it asks and for what is open. It has at most one such refusal: the first of its causes, in the order
--- in which they stand here.
+-- Why a command is refused for what it asks and for what is open. It has at most one such refusal:
+-- the first of its causes, in the order in which they stand here.
 use Rattle.std.specs.Prelude.{ℕ, ◌+◌, ◌-◌, ◌^◌, nat_eq, nat_lt, if◌then◌else◌, Bool, true, false, Option, Some, None, is_some, List, [], ◌∷◌, length}
 use Rattle.std.specs.Map.{lookup}
 use Rattle.std.specs.Option.{option_or}
@@ -78,7 +78,7 @@ lacks_place stands motion = if needs_place motion then (if stands then None else
 abbrev pub open_cause : Status → Option DbError
 open_cause s = if s.opened then (if s.broken then Some error.Broken else Some error.AlreadyOpen) else None
 
--- sequences are below 2^56
+-- sequence numbers are below 2^56
 abbrev pub full : Status → List Operation → Option DbError
 full s [] = None
 full s (operation ∷ operations) = if nat_lt (2 ^ 56 - 1) (s.used + length (operation ∷ operations)) then Some error.SequenceFull else None

@@ -77,7 +77,7 @@ module _ (cmp : List ℕ → List ℕ → Ordering) (total : IsTotalOrder cmp) (
           (λ one b k le. let newer = newer-from cmp total exact one.entry.key one.entry.sequence entry (sym k) b in omega (arith, newer)) later));
     }
 
--- whether an entry has a user key and a sequence, by the newest of the key up to it
+-- whether an entry has a user key and a sequence number, by the newest of the key up to it
 pub has-or-new : (inserts : List Entry) (key : List ℕ) (sequence : ℕ) (entry : Entry) (answer : Bool) → answer ≡ (entry.sequence == sequence) → entry.key ≡ key → IsNewest inserts sequence entry
     → MatchBool answer (HasEntry inserts key sequence) (IsNew inserts key sequence)
 has-or-new inserts key sequence entry true e same newest = (entry, newest.member, same, eqb-true entry.sequence sequence (sym e))
@@ -86,6 +86,6 @@ has-or-new inserts key sequence entry false e same newest = λ other member k s.
     let both : entry.sequence ≡ sequence = omega (arith, le, newest.seen, s) in
     eqb-false entry.sequence sequence (sym e) both
 
--- no entry of the key is seen, so none has the sequence
+-- no entry of the key is seen, so none has the sequence number
 pub unseen-new : (inserts : List Entry) (key : List ℕ) (sequence : ℕ) → IsUnseen inserts sequence key → IsNew inserts key sequence
 unseen-new inserts key sequence h = λ entry member k s. absurd (omega (arith, h entry member k, s))

@@ -81,7 +81,7 @@ module _ (less : ℕ → ℕ → Bool) (lawful : IsStrictWeakOrder less) where
   pub sorted-once : (xs ys : List ℕ) → Ascends xs → IsPermutation xs ys → IsSortedBy less ys → ys ≡ xs
   sorted-once xs ys up permuted sorted = same-row xs ys up sorted (λ z. sym (sum_by-IsPermutation (one z) xs ys permuted))
 
--- ---- entries of which no two have the same key and sequence
+-- ---- entries of which no two have the same key and sequence number
 
 middle-among : (front : List Entry) (entry : Entry) (back : List Entry) → Among (front ++ entry ∷ back) entry
 middle-among [] entry back = inl refl

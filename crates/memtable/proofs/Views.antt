@@ -1,4 +1,4 @@
--- What a reader at a sequence sees while entries are added.
+-- What a reader at a sequence number sees while entries are added.
 use Rattle.std.proofs.Common.{◌≡◌, ◌<◌, ◌+◌, ◌++◌, ℕ, Bool, List, [], ◌∷◌, length, nat_le, cond, sym, ap, ◌∙◌, append_assoc}
 use Rattle.std.proofs.lemmas.Bool.{cond_both, lt-leb}
 use Rattle.std.proofs.lemmas.List.{append-nil}

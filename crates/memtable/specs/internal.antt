@@ -1,3 +1,4 @@
--- Invariants and plumbing: what is below here need not be believed, since no caller builds on it but by its name.
+-- Invariants and plumbing: what is below here need not be believed, since no caller builds on it
+-- but by its name.
 pub mod Ranks
 pub mod Unique

@@ -7,7 +7,7 @@ ghost use Rattle.memtable.specs.Levels.{AreLevels, AreEnds, AreNumbers, quarter}
 use crate::mem_table::LEVELS;
 use std::alloc::{AllocError, Global};
 
-/// The links of each level, the last node of each, and the links backwards.
+/// Holds the links of each level, the last node of each, and the links backwards.
 #[derive(Drop)]
 pub struct Links {
     pub levels: [Vec<u32>; LEVELS],
@@ -15,7 +15,7 @@ pub struct Links {
     pub back: Vec<u32>,
 }
 
-/// The links of the list of these nodes, in this order. They have room for no more.
+/// Links the list of these nodes, in this order. The links have room for no more.
 pub fn links_over(alloc: Global, mut nodes: Vec<u32>) -> Result<Links, AllocError>
     requires numbers { AreNumbers (length nodes.items) nodes.items }
     requires few { length nodes.items < 2 ^ 32 }

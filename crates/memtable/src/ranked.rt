@@ -5,7 +5,8 @@ ghost use Rattle.memtable.specs.internal.Unique.{IsFront-prop};
 
 use ikey::Front;
 
-/// What tells where an entry stands, and its number. The front lies beside the number, since most compares read it alone.
+/// Holds what tells where an entry stands, and its number. The front lies beside the number, since
+/// most compares read it alone.
 #[derive(Clone, Copy)]
 pub struct Ranked<'a> {
     pub front: Front,

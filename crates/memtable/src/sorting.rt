@@ -12,7 +12,8 @@ use ikey::{Entry, Front, KeyOrder};
 use std::alloc::{AllocError, Global};
 use std::cmp::Ordering;
 
-/// The numbers of the entries, counted from 1, in internal order. No two entries may have the same user key and sequence.
+/// Sorts the numbers of the entries, counted from 1, in internal order. No two entries may have the
+/// same user key and sequence number.
 pub fn sorted<K: KeyOrder>(alloc: Global, entries: &[Entry]) -> Result<Vec<u32>, AllocError>
     requires few { length entries.now < 2 ^ 32 }
     requires new { AllDiffer entries.now }
@@ -44,7 +45,7 @@ fn ranked_of(alloc: Global, entries: &[Entry]) -> Result<Vec<Ranked<'_>>, AllocE
     Ok(ranked)
 }
 
-// The fronts decide where they can.
+// The fronts decide if they can.
 #[inline(always)]
 fn compare_ranked<K: KeyOrder>(a: &Ranked<'_>, b: &Ranked<'_>) -> Ordering
     ensures { result ≡ ranked_cmp K.cmp a.now b.now }

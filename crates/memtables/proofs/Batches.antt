@@ -1,4 +1,4 @@
--- What comes into a memory table, entry by entry.
+-- What comes into a memtable, entry by entry.
 use Rattle.std.proofs.Common.{◌≡◌, ◌⊎◌, ℕ, zero, suc, ◌+◌, ◌-◌, ◌<◌, ◌≤◌, ◌++◌, List, [], ◌∷◌, length, take, drop, sum_by, get_or, max, Option, inl, inr, refl, sym, ap, ◌∙◌, add-one, arith}
 use Rattle.std.proofs.Math.Seq.{drop-cons, take-suc}
 use Rattle.std.proofs.lemmas.List.Sums.{sum_by-cons}
@@ -29,7 +29,7 @@ up_to_greatest [] last h e among = absurd among
 up_to_greatest (first ∷ entries) last h e (inl is) = (let same : e.sequence ≡ first.sequence = ap (λ (x : Entry). x.sequence) is in let most : max first.sequence (greatest entries) ≤ last = h in omega (arith, same, most))
 up_to_greatest (first ∷ entries) last h e (inr rest) = up_to_greatest entries last (let most : max first.sequence (greatest entries) ≤ last = h in omega (arith, most)) e rest
 
--- ---- sequences that rise
+-- ---- sequence numbers that rise
 
 above_low : (low : ℕ) (entries : List Entry) (e : Entry) → RiseAbove low entries → Among entries e → low < e.sequence
 above_low low [] e h among = absurd among

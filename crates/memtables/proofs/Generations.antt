@@ -106,7 +106,8 @@ invariant_alone table last generation older none bound fits = record {
 
 -- ---- dropping
 
--- What is left under a generation of an older table: it is the same where it is of use, and else none; none comes anew.
+-- What is left under a generation of an older table: it is the same where it is of use, and else
+-- none; none comes anew.
 abbrev pub Keeps : (ℕ → Type 0) → Option Contents → Option Contents → ℕ → Type 0
 Keeps used old new generation = (used generation → new ≡ old) × ((used generation → ⊥) → new ≡ None) × ((table : Contents) → new ≡ Some table → old ≡ Some table)
 

@@ -10,7 +10,7 @@ use Rattle.memtables.specs.Changes.{IsSealed}
 use Rattle.memtables.specs.Memories.{AreMemories, Memories, older_at, sealed_inserts, table_in}
 use Rattle.memtables.proofs.Generations.{Updates, updated_here, updated_apart}
 
--- what seals a table makes of the memory tables
+-- what seals a table makes of the memtables
 abbrev pub sealed_as : Memories → Contents → ℕ → List (ℕ × Contents) → Memories
 sealed_as m table next older = record { current = table; last = m.last; generation = next; sealed = Some m.generation; older = older }
 

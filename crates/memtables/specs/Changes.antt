@@ -1,9 +1,9 @@
--- What calls change of the memory tables.
+-- What calls change of the memtables.
 use Rattle.std.specs.Prelude.{◌≡◌, ◌≢◌, ◌⊎◌, ◌+◌, ◌++◌, ℕ, List, [], Some, None}
 use Rattle.ikey.specs.declared.entry.Entry.{Entry}
 use Rattle.memtables.specs.Memories.{Memories, older_at, table_in}
 
--- These entries were added to the current table, and the last sequence may have risen.
+-- These entries were added to the current table, and the last sequence number may have risen.
 pub record HasMoreEntries (old new : Memories) (more : List Entry) : Type 0 where
   pub inserts : new.current.inserts ≡ old.current.inserts ++ more
   pub others : new ≡ record old { current = new.current; last = new.last }

@@ -1,4 +1,4 @@
--- The memory tables of an open database (LevelDB's db/db_impl.h, DBImpl::mem_ and DBImpl::imm_).
+-- The memtables of an open database (LevelDB's db/db_impl.h, DBImpl::mem_ and DBImpl::imm_).
 use Rattle.std.specs.Prelude.{◌≡◌, ◌<◌, ◌≤◌, ◌+◌, ◌^◌, ℕ, nat_eq, if◌then◌else◌, List, [], ◌++◌, length, sum_by, Option, Some, None, IfSome, IsSome}
 use Rattle.std.specs.Option.{option_and_then}
 use Rattle.std.specs.Ordering.{nat_cmp}
@@ -11,8 +11,9 @@ use Rattle.ikey.specs.Sources.{IsNewerThan}
 use Rattle.ikey.specs.Views.{AllUpTo}
 use Rattle.memtable.specs.Contents.{Contents}
 
--- The table that writes go to, with the last sequence used and the generation under which it is known; and the older ones under
--- theirs, with that of the sealed one, which waits to be written into a table file.
+-- The table that writes go to, with the last sequence number used and the generation under which it
+-- is known; and the older ones under theirs, with that of the sealed one, which waits to be written
+-- into a table file.
 pub record Memories : Type 0 where
   pub current : Contents
   pub last : ℕ
@@ -44,8 +45,8 @@ sealed_inserts memories = inserts_of (sealed_in memories)
 abbrev pub logged_in : Memories → List Entry
 logged_in memories = sealed_inserts memories ++ memories.current.inserts
 
--- No entry is above the last sequence, older tables have lower generations, and the sealed one is one of them. Of the same key, the
--- current table's entries are newer than the sealed one's.
+-- No entry is above the last sequence number, older tables have lower generations, and the sealed
+-- one is one of them. Of the same key, the current table's entries are newer than the sealed one's.
 pub record AreMemories (memories : Memories) : Type 0 where
   pub current : AllUpTo memories.last memories.current.inserts
   pub older : (generation : ℕ) (table : Contents) → older_at memories.older generation ≡ Some table → AllUpTo memories.last table.inserts

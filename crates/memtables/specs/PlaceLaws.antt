@@ -1,4 +1,4 @@
--- Laws of cursors over the memory tables.
+-- Laws of cursors over the memtables.
 use Rattle.std.specs.Prelude.{◌≡◌, ◌<◌, ◌++◌, ℕ, Bool, true, false, List, Option, Some, None, IsSomeAnd, is_some, length, nat_eq}
 use Rattle.std.specs.Option.{option_and_then, option_map}
 use Rattle.std.proofs.Common.{ap, append_assoc, cond, refl, sym, ◌∙◌}

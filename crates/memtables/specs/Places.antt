@@ -1,4 +1,4 @@
--- Where a cursor over one of the memory tables stands, and what its moves leave.
+-- Where a cursor over one of the memtables stands, and what its moves leave.
 use Rattle.std.specs.Prelude.{◌≡◌, ℕ, List, Option, IsSomeAnd}
 use Rattle.std.specs.Option.{option_map}
 use Rattle.cursor.specs.Places.{Cmp, Listed}
@@ -18,7 +18,7 @@ pub record MemoriesPlace : Type 0 where
 abbrev pub ListsMemoryTable : Cmp → ℕ → MemoryPlace → Memories → Listed → Type 0
 ListsMemoryTable cmp generation place memories at = IsSomeAnd (table_in memories generation) (λ (table : Contents). ListsMemory cmp place table at)
 
--- cursor and memory tables are this list and this place
+-- cursor and memtables are this list and this place
 abbrev pub ListsMemories : Cmp → MemoriesPlace → Memories → Listed → Type 0
 ListsMemories cmp cursor memories at = ListsMemoryTable cmp cursor.generation cursor.place memories at
 
@@ -26,7 +26,8 @@ ListsMemories cmp cursor memories at = ListsMemoryTable cmp cursor.generation cu
 abbrev pub seen_by : Cmp → MemoryPlace → Contents → List Placed
 seen_by cmp place table = up_to place.sequence (ordered cmp table.inserts)
 
--- The table of its generation is there in both, with the same entries that the cursor lists at the same nodes, or in neither.
+-- The table of its generation is there in both, with the same entries that the cursor lists at the
+-- same nodes, or in neither.
 abbrev pub KeepsMemories : Cmp → MemoriesPlace → Memories → Memories → Type 0
 KeepsMemories cmp cursor old new =
     option_map (seen_by cmp cursor.place) (table_in old cursor.generation) ≡ option_map (seen_by cmp cursor.place) (table_in new cursor.generation)

@@ -1,4 +1,4 @@
-//! What cursors over the memory tables read after the tables have changed.
+//! What cursors over the memtables read after the tables have changed.
 
 ghost use Rattle.std.specs.Prelude.{◌≡◌, ◌≤◌, ◌<◌, ℕ, List, IsSome};
 ghost use Rattle.std.specs.List.{AllByRecursion};
@@ -10,8 +10,8 @@ ghost use Rattle.memtables.specs.Places.{MemoriesPlace, KeepsMemories, LeavesMem
 use ikey::KeyOrder;
 use table_access::later_inserts_are_kept;
 
-/// Law: a cursor's list stays: while entries above its sequence are written, while its table is sealed or flushed, while other
-/// tables are dropped, and over the moves of all cursors.
+/// Proves that a cursor's list stays while entries above its sequence number are written, its table
+/// is sealed or flushed, and other tables are dropped, and over the moves of all cursors.
 pub fn changes_are_kept<K: KeyOrder>()
     ensures written { (cursor : MemoriesPlace) (old new : Memories) (more : List Entry) (sequence : ℕ)
         → cursor.place.sequence ≤ sequence → AllByRecursion (λ (entry : Entry). sequence < entry.sequence) more → HasMoreEntries old new more

@@ -1,5 +1,5 @@
-//! The memory tables of an open database: the one that writes go to, the one that is sealed until a table file has its
-//! entries, and those that open iterators still read.
+//! The memtables of an open database: the one that writes go to, the one that is sealed until a
+//! table file has its entries, and those that open iterators still read.
 #![tactic(auto)]
 
 mod laws;

@@ -1,4 +1,5 @@
-//! A cursor over one of the memory tables of an open database (LevelDB's db/memtable.cc, MemTableIterator).
+//! A cursor over one of the memtables of an open database (LevelDB's db/memtable.cc,
+//! MemTableIterator).
 
 use crate::memory_tables::MemoryTables;
 use crate::motion::Motion;
@@ -10,9 +11,9 @@ use std::alloc::Global;
 use std::marker::Model;
 use table_access::MemoryCursor;
 
-/// A cursor over the memory table of a generation, whichever it is by then: the current one, the sealed one, or one that is
-/// kept for readers. It lists that table's entries up to a sequence. Where the table isn't there, it lists nothing, and a
-/// move answers Corrupt.
+/// Holds a cursor over the memtable of a generation, whichever it is by then: the current one, the
+/// sealed one, or one that is kept for readers. It lists that table's entries up to a sequence
+/// number. If the table isn't there, it lists nothing, and a move answers Corrupt.
 #[derive(Drop)]
 pub struct MemoriesCursor<K: KeyOrder> {
     generation: u64,
@@ -35,8 +36,8 @@ impl<K: KeyOrder> MemoriesCursor<K> {
     ghost use Rattle.memtable.specs.Contents.{Contents};
     ghost use Rattle.table_access.specs.Memory.{seen_entries};
 
-    /// A cursor over the table of this generation, up to the sequence, which is below `SEQUENCE_END`. It stands nowhere, and
-    /// takes no memory.
+    /// Makes a cursor over the table of this generation, up to the sequence number, which is below
+    /// `SEQUENCE_END`. It stands nowhere, and takes no memory.
     pub fn new(alloc: Global, generation: u64, sequence: u64) -> Self
         requires { sequence < 2 ^ 56 }
         ensures { result ≡ record { generation = generation; place = record { sequence = sequence; node = None; key = [] } } }
@@ -47,7 +48,8 @@ impl<K: KeyOrder> MemoriesCursor<K> {
         }
     }
 
-    /// A cursor that stands nowhere, as a new one does, lists what is seen of the table of its generation at its sequence.
+    /// Proves that a cursor that stands nowhere, as a new one does, lists what is seen of the table
+    /// of its generation at its sequence number.
     pub fn begins(&self, source: &MemoryTables<K>)
         requires { self.now.place.node ≡ None }
         ensures { (table : Contents) → table_in source.now self.now.generation ≡ Some table

@@ -1,4 +1,5 @@
-//! The memory tables of an open database (LevelDB's db/memtable.h, and db/db_impl.h, DBImpl::mem_ and DBImpl::imm_).
+//! The memtables of an open database (LevelDB's db/memtable.h, and db/db_impl.h, DBImpl::mem_
+//! and DBImpl::imm_).
 
 ghost use Rattle.std.specs.Prelude.{◌≡◌, ◌++◌, ◌∷◌, [], ◌⊎◌, Some, IfOk, IfSome, MatchBool, sum_by};
 ghost use Rattle.coding.specs.declared.error.DbError.TheVariants.{Corrupt};
@@ -19,9 +20,10 @@ use std::marker::Model;
 use std::mem;
 use table_access::MemoryCursor;
 
-/// The memory tables of an open database. Writes go to the current one; the sealed one, if there is one, waits to be written
-/// into a table file; and one that was written stays as long as an open iterator reads it. Each is known under a generation,
-/// a number that rises by one whenever the current one is sealed. No entry is above the last sequence that is used.
+/// Holds the memtables of an open database. Writes go to the current one. The sealed one, if there
+/// is one, waits to be written into a table file. One that was written stays as long as an open
+/// iterator reads it. Each is known under a generation, a number that rises by one whenever the
+/// current one is sealed. No entry is above the last sequence number that is used.
 #[derive(Drop)]
 pub struct MemoryTables<K: KeyOrder> {
     current: MemTable<K>,
@@ -67,7 +69,8 @@ impl<K: KeyOrder> MemoryTables<K> {
     ghost use Rattle.recover.specs.Entries.{RiseAbove, greatest, made_entry, entries_of};
     ghost use Rattle.table_access.specs.Memory.{memory_facts};
 
-    /// A current table without entries, and no other; no sequence is used. It takes no memory.
+    /// Makes a current table without entries, and no other; no sequence number is used. It takes no
+    /// memory.
     pub fn empty(alloc: Global) -> Self
         ensures inserts { result.current.inserts ≡ [] }
         ensures last { result.last ≡ 0 }
@@ -82,7 +85,8 @@ impl<K: KeyOrder> MemoryTables<K> {
         }
     }
 
-    /// A current table of these entries, whose sequences rise, beside the last sequence used, and no other table.
+    /// Makes a current table of these entries, whose sequence numbers rise, with the last one used,
+    /// and no other table.
     pub fn of(alloc: Global, entries: &[Entry], last: u64) -> Result<Self, AllocError>
         requires rising { RiseAbove 0 entries.now }
         requires bounded { greatest entries.now ≤ last }
@@ -98,7 +102,7 @@ impl<K: KeyOrder> MemoryTables<K> {
         })
     }
 
-    /// The last sequence that is used.
+    /// Returns the last sequence number that is used.
     pub fn last(&self) -> u64
         ensures is { result ≡ self.now.last }
         ensures fits { self.now.last < 2 ^ 56 }
@@ -106,15 +110,16 @@ impl<K: KeyOrder> MemoryTables<K> {
         self.last
     }
 
-    /// Law: no entry is above the last sequence, the older tables, among which the sealed one is, have lower generations, and the
-    /// current table's entries are newer than the sealed one's.
+    /// Proves what is bounded. No entry is above the last sequence number. The older tables, the
+    /// sealed one among them, have lower generations. The current table's entries are newer than
+    /// the sealed one's.
     pub fn are_bounded(&self)
         ensures { AreMemories self.now }
     {
         let _ = &self.current;
     }
 
-    /// The generation of the current table.
+    /// Returns the generation of the current table.
     pub fn generation(&self) -> u64
         ensures is { result ≡ self.now.generation }
         ensures there { table_in self.now result ≡ Some self.now.current }
@@ -122,30 +127,32 @@ impl<K: KeyOrder> MemoryTables<K> {
         self.generation
     }
 
-    /// The generation of the sealed table, where one is sealed.
+    /// Returns the generation of the sealed table, if one is sealed.
     pub fn sealed_generation(&self) -> Option<u64>
         ensures { result ≡ self.now.sealed }
     {
         self.sealed
     }
 
-    /// The size of the current table: the sum over its entries of key length, value length and 8.
+    /// Returns the size of the current table: the sum over its entries of key length, value length
+    /// and 8.
     pub fn size(&self) -> usize
         ensures { result ≡ size_of self.now.current.inserts }
     {
         self.current.size()
     }
 
-    /// Whether the current table has no entries.
+    /// Returns whether the current table has no entries.
     pub fn is_empty(&self) -> bool
         ensures { result ≡ (length self.now.current.inserts == 0) }
     {
         self.current.is_empty()
     }
 
-    /// A copy of what the newest entry of a user key up to a sequence put, among those of the current table and of the sealed
-    /// one: nothing where no entry of the key is up to it, and `Some(None)` where it was deleted. The current table is
-    /// searched first, since its entries are the newer ones.
+    /// Returns a copy of what the newest entry of a user key up to a sequence number put, among
+    /// those of the current table and of the sealed one. None: no entry of the key is up to it.
+    /// `Some(None)`: the key was deleted. The current table is searched first, since its entries
+    /// are the newer ones.
     pub fn value(
         &self,
         alloc: Global,
@@ -180,8 +187,8 @@ impl<K: KeyOrder> MemoryTables<K> {
         Ok(())
     }
 
-    /// Adds the entries of a batch to the current table, behind the last sequence, in room that is there: it takes no memory,
-    /// and can't fail.
+    /// Adds the entries of a batch to the current table, under the next sequence numbers, in room
+    /// that is there. It takes no memory, and can't fail.
     pub fn add_batch(&mut self, operations: &[Operation])
         requires room { HasRoom self.old operations.now }
         requires fits { self.old.last + length operations.now < 2 ^ 56 }
@@ -193,9 +200,9 @@ impl<K: KeyOrder> MemoryTables<K> {
         }
     }
 
-    /// Seals the current table, which then is known as the sealed one under the generation that it has, and begins an empty
-    /// one of the next generation. The last sequence stays. Where memory is refused, nothing has changed; the generation
-    /// 2^64 is refused as memory is.
+    /// Seals the current table, which is then the sealed one under the generation that it has, and
+    /// begins an empty one of the next generation. The last sequence number stays. Out of memory:
+    /// nothing has changed. A generation of 2^64 is answered as out of memory.
     pub fn seal(&mut self, alloc: Global) -> Result<(), AllocError>
         requires { self.old.sealed ≡ None }
         ensures ok { OnOk result (IsSealed self.old self.new) }
@@ -220,8 +227,9 @@ impl<K: KeyOrder> MemoryTables<K> {
         }
     }
 
-    /// Takes a seal back, behind which nothing was written: the sealed table is the current one again. It takes no memory.
-    /// Where something was written behind it, or no table is sealed, nothing happens.
+    /// Takes back a seal after which nothing was written: the sealed table is the current one
+    /// again. It takes no memory. If something was written since, or no table is sealed, nothing
+    /// happens.
     pub fn unseal(&mut self)
         ensures left { (before : Memories) → IsSealed before self.old → LeavesMemories before self.new }
         ensures last { self.new.last ≡ self.old.last }
@@ -243,22 +251,23 @@ impl<K: KeyOrder> MemoryTables<K> {
         }
     }
 
-    /// The sealed table, where one is sealed.
+    /// Returns the sealed table, if one is sealed.
     pub fn sealed(&self) -> Option<&MemTable<K>>
         ensures { option_copied result ≡ sealed_in self.now }
     {
         self.older.get(&self.sealed?)
     }
 
-    /// No table is sealed any more: a table file has the entries of the one that was. It stays for its readers, until it is
-    /// dropped or forgotten.
+    /// Records that a table file has the entries of the sealed table: none is sealed any more. The
+    /// table stays for its readers, until it is dropped or forgotten.
     pub fn flushed(&mut self)
         ensures { DropsSealed self.old self.new }
     {
         self.sealed = None;
     }
 
-    /// Drops the older table of a generation, where there is one that isn't sealed. It takes no memory.
+    /// Drops the older table of a generation, if there is one that isn't sealed. It takes no
+    /// memory.
     pub fn forget(&mut self, generation: u64)
         ensures { KeepsUsed (IsRemembered generation self.old) self.old self.new }
     {
@@ -267,7 +276,8 @@ impl<K: KeyOrder> MemoryTables<K> {
         }
     }
 
-    /// Drops the older tables that none of these users reads and that aren't sealed. It takes no memory.
+    /// Drops the older tables that none of these users reads and that aren't sealed. It takes no
+    /// memory.
     pub fn drop_unused<U: Users>(&mut self, users: &U)
         ensures { KeepsUsed (IsUsed (U.names users.now) self.old) self.old self.new }
     {
@@ -276,7 +286,7 @@ impl<K: KeyOrder> MemoryTables<K> {
             .retain(|generation, _| is_used(users, sealed, *generation));
     }
 
-    /// The table of a generation, where it is there.
+    /// Returns the table of a generation, if it is there.
     pub fn table(&self, generation: u64) -> Option<&MemTable<K>>
         ensures { option_copied result ≡ table_in self.now generation }
     {
@@ -286,7 +296,8 @@ impl<K: KeyOrder> MemoryTables<K> {
         self.older.get(&generation)
     }
 
-    /// Moves a cursor over the table of a generation. The entries stay. Corrupt, where there is no such table.
+    /// Moves a cursor over the table of a generation. The entries stay. Corrupt: there is no such
+    /// table.
     pub(crate) fn move_cursor(
         &mut self,
         alloc: Global,
@@ -331,7 +342,8 @@ impl<K: KeyOrder> MemoryTables<K> {
     }
 }
 
-// Why a cursor over a table that isn't there is refused: the entries of the log that it was made for aren't in memory.
+// Why a cursor over a table that isn't there is refused: the entries of the log that it was made
+// for aren't in memory.
 fn missing_table() -> DbError
     ensures { result ≡ Corrupt Log Missing }
 {
@@ -346,7 +358,7 @@ fn is_used<U: Users>(users: &U, sealed: Option<u64>, generation: u64) -> bool
     sealed == Some(generation) || users.names(generation)
 }
 
-// What the newest entry of a user key up to a sequence put into this table.
+// What the newest entry of a user key up to a sequence number put into this table.
 fn value_in<K: KeyOrder>(
     alloc: Global,
     table: &MemTable<K>,
@@ -362,7 +374,7 @@ fn value_in<K: KeyOrder>(
     }
 }
 
-// How many bytes the keys and values of the operations have; None where that passes 64 bits.
+// How many bytes the keys and values of the operations have; None if that passes 64 bits.
 fn bytes_of(operations: &[Operation]) -> Option<usize>
     ensures { IfSome result (λ bytes. bytes ≡ sum_by operation_bytes operations.now) }
 {

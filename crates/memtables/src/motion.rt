@@ -10,7 +10,7 @@ use cursor::Cursor;
 use ikey::KeyOrder;
 use std::alloc::Global;
 
-/// A move of a cursor.
+/// Tells a move of a cursor.
 #[derive(Clone, Copy)]
 pub enum Motion<'a> {
     First,

@@ -50,7 +50,8 @@ never o x some none = let bad : Some x ≡ None = sym some ∙ none in cc
 
 -- ---- the file of one name as the loss left it
 
--- These files have it so, and are else as they were in front of the append; and so are those of the moment behind it.
+-- These files have it so, and are else as they were in front of the append; and so are those of the
+-- moment behind it.
 record IsShort (old mid : Facts) (name : List ℕ) (lost files : Files) (left : List ℕ) : Type 0 where
   there : get lost name ≡ Some left
   had : contains_key mid.files name ≡ true
@@ -209,7 +210,8 @@ put_short old mid name bytes x lost p named left =
     let some = cut_append p.before bytes there.0 p.count front kept in
     (some.0, short_by old mid name bytes lost p there.0 some.0 there.1 some.1)
 
--- What each beginning of these bytes behind the file leaves: one of these directories, and the file is its MANIFEST.
+-- What each beginning of these bytes behind the file leaves: one of these directories, and the file
+-- is its MANIFEST.
 pub record LeavesOne (order : Order) (old : Files) (name bytes : List ℕ) (Q : Directory → Type 0) : Type 0 where
   pub one : (files : Files) → AppendsBeginning old files name bytes → (x : Directory) × Q x × IsConsistent order files x
   pub named : (x : Directory) → Q x → name ≡ name_of (Manifest x.manifest)
@@ -295,7 +297,8 @@ here_loses spared cut order old name bytes Q leaves spares lost since kept =
     let x = first.0 in
     (x, first.1, left_cut spared cut order old x first.2 (spares x first.1) lost since (kept x first.1))
 
--- Bytes are put behind the MANIFEST and synced, of which each beginning leaves one of these directories: so does each loss, at any moment, but for the ends of logs.
+-- Bytes are put behind the MANIFEST and synced, of which each beginning leaves one of these
+-- directories: so does each loss, at any moment, but for the ends of logs.
 pub loses_edits : SparedLaw → CutLaw → (order : Order) (old new : Facts) (name bytes : List ℕ) (Q : Directory → Type 0) → PutsSynced old new name bytes → LeavesOne order old.files name bytes Q → IsKept old name → ((x : Directory) → Q x → AreSpared old x)
     → LosesOnly old new (LeavesOneCut order old Q)
 loses_edits spared cut order old new name bytes Q puts leaves whole spares =

@@ -1,4 +1,5 @@
--- What a loss of power leaves of a directory while bytes are put behind one of its logs, and while a log is synced.
+-- What a loss of power leaves of a directory while bytes are put behind one of its logs, and while
+-- a log is synced.
 use Rattle.std.proofs.Common.{◌≡◌, ◌≢◌, ◌⊎◌, inl, inr, ℕ, List, ◌++◌, take, sym, ap, subst, ◌∙◌}
 use Rattle.std.specs.FinMap.{get}
 use Rattle.store.specs.Calls.{Adds, Idles}
@@ -22,7 +23,8 @@ spared_logs facts d logs s = record { reads = s.reads; logs = s.logs }
 left_logs : (facts : Facts) (lost : Files) (d : Directory) (logs : List LogContent) → AreLeft facts d lost → AreLeft facts (record d { logs = logs }) lost
 left_logs facts lost d logs k = record { current = k.current; manifest = k.manifest; tables = k.tables }
 
--- Each loss until the next call, where the directory has these logs by now, and all else that it reads is as it was.
+-- Each loss until the next call, where the directory has these logs by now, and all else that it
+-- reads is as it was.
 pub logs_lose : SparedLaw → CutLaw → (order : Order) (old then : Facts) (d : Directory) (logs : List LogContent) → SameRead old then d → IsConsistent order then.files (record d { logs = logs }) → AreSpared then d
     → LosesOnly then then (λ lost. AreLeft old d lost → IsLeftCut order then (record d { logs = logs }) lost)
 logs_lose spared cut order old then d logs same good spares lost since kept =

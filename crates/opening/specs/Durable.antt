@@ -1,5 +1,5 @@
--- What calls leave of what is synced (LevelDB's db/db_impl.cc, DBImpl::NewDB and DBImpl::Write, and db/filename.cc,
--- SetCurrentFile).
+-- What calls leave of what is synced (LevelDB's db/db_impl.cc, DBImpl::NewDB and DBImpl::Write, and
+-- db/filename.cc, SetCurrentFile).
 use Rattle.std.specs.Prelude.{◌≡◌, ◌≢◌, ◌⊎◌, ℕ, Some, IsTrue, List, [], ◌∷◌, ◌++◌, Result, OnOk, OnErr}
 use Rattle.std.specs.FinMap.{get}
 use Rattle.coding.specs.declared.error.DbError.{DbError}

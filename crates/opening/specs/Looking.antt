@@ -12,7 +12,8 @@ use Rattle.recover.specs.Ranges.{HaveRanges}
 use Rattle.recover.specs.Reading.{Recovers, RefusesDirectory, IsBeyondReading, IsInconsistent}
 use Rattle.recover.specs.declared.reading.Recovered.{Recovered}
 
--- The directory is empty, or this was read of its MANIFEST and its logs. No table was, so that it needn't be consistent.
+-- The directory is empty, or this was read of its MANIFEST and its logs. No table was, so that it
+-- needn't be consistent.
 abbrev pub IsFound : Order → Files → Option Recovered → Type 0
 IsFound order files None = IsEmpty files
 IsFound order files (Some recovered) = Recovers order files recovered
@@ -30,13 +31,14 @@ pub record IsProper (order : Order) (recovered : Recovered) : Type 0 where
 abbrev pub IsDamaged : Order → Files → Type 0
 IsDamaged order files = (IsEmpty files → ⊥) × IsInconsistent order files
 
--- Why a look ends: out of memory, since the store failed, since the directory is damaged, or has what isn't supported.
+-- Why a look ends: out of memory, since the store failed, since the directory is damaged, or has
+-- what isn't supported.
 abbrev pub RefusesLook : Order → DbError → Facts → Facts → Type 0
 RefusesLook order e old new = RefusesDirectory e old new (IsDamaged order old.files) (IsBeyondReading order old.files)
 
 -- ---- what is in memory
 
--- The memory has these entries, sealed where there are some, and this last sequence.
+-- The memory has these entries, sealed where there are some, and this last sequence number.
 pub record IsSealedOf (memory : Memories) (entries : List Entry) (used : ℕ) : Type 0 where
   pub sealed : sealed_inserts memory ≡ entries
   pub unsealed : entries ≡ [] → memory.sealed ≡ None

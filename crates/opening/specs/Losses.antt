@@ -1,4 +1,5 @@
--- What a loss of power leaves of a directory, by what of it is synced. (What it may leave of files: `store`'s specs/Losses.)
+-- What a loss of power leaves of a directory, by what of it is synced. (What it may leave of files:
+-- `store`'s specs/Losses.)
 use Rattle.std.specs.Prelude.{◌≡◌, ◌≢◌, ◌⊎◌, ◌<◌, ◌≤◌, ℕ, true, false, Some, None, List, [], ◌∷◌, ◌++◌, map, string_bytes}
 use Rattle.std.specs.List.{AllByRecursion}
 use Rattle.std.specs.FinMap.{get, contains_key}
@@ -57,11 +58,13 @@ IsWholeOrGone files lost name = (bytes : List ℕ) → get files name ≡ Some b
 abbrev pub IsLeftWhole : Facts → Files → List ℕ → Type 0
 IsLeftWhole facts lost name = IsKept facts name ⊎ IsWholeOrGone facts.files lost name
 
--- So is the file that is read as the table of this number: that of its newer name, or else that of its older one.
+-- So is the file that is read as the table of this number: that of its newer name, or else that of
+-- its older one.
 abbrev pub IsTableKept : Facts → ℕ → Type 0
 IsTableKept facts number = IsKept facts (name_of (Table number)) × (get facts.files (name_of (Table number)) ≡ None → IsKept facts (name_of (OldTable number)))
 
--- So is all that a directory of these parts reads: `CURRENT`, its MANIFEST, its live logs, and its tables but for those that the loss has left.
+-- So is all that a directory of these parts reads: `CURRENT`, its MANIFEST, its live logs, and its
+-- tables but for those that the loss has left.
 pub record IsKeptWhole (facts : Facts) (lost : Files) (d : Directory) : Type 0 where
   pub current : IsKept facts (name_of Current)
   pub manifest : IsKept facts (name_of (Manifest d.manifest))
@@ -76,7 +79,8 @@ KeptLaw = (order : Order) (facts : Facts) (d : Directory) (lost : Files)
 
 -- ---- logs that may be cut
 
--- All that a directory of these parts reads is synced whole but for its logs, and for tables that the loss has left.
+-- All that a directory of these parts reads is synced whole but for its logs, and for tables that
+-- the loss has left.
 pub record IsKeptButLogs (facts : Facts) (whole after : Files) (d : Directory) : Type 0 where
   pub current : IsKept facts (name_of Current)
   pub manifest : IsKept facts (name_of (Manifest d.manifest))
@@ -99,7 +103,8 @@ AreCut facts (whole ∷ wholes) cuts =
     ((cut : LogContent) × (others : List LogContent) × (cuts ≡ cut ∷ others) × IsCut facts whole cut × AreCut facts wholes others)
     ⊎ ((facts.synced (name_of (Log whole.number)) ≡ None) × AreCut facts wholes cuts)
 
--- A directory of these parts reads the file of this name, and it is no log. (Of a table it reads the file with the newer name, where that is there.)
+-- A directory of these parts reads the file of this name, and it is no log. (Of a table it reads
+-- the file with the newer name, where that is there.)
 abbrev pub IsReadIn : Files → Directory → List ℕ → Type 0
 IsReadIn files d name = (name ≡ name_of Current) ⊎ (name ≡ name_of (Manifest d.manifest))
     ⊎ ((content : TableContent) × InTables d.tables content
@@ -109,8 +114,9 @@ IsReadIn files d name = (name ≡ name_of Current) ⊎ (name ≡ name_of (Manife
 abbrev pub IsLogIn : Directory → List ℕ → Type 0
 IsLogIn d name = (n : ℕ) × IsNumbered n × IsLive d.layout n × (name ≡ name_of (Log n))
 
--- Of what the directory reads, these files are left: the same names, but for logs of which nothing was synced, and of each file a beginning of what it
--- holds, with what of it was synced at least. Whatever else lies there, and whatever is gone, is none of its.
+-- Of what the directory reads, these files are left: the same names, but for logs of which nothing
+-- was synced, and of each file a beginning of what it holds, with what of it was synced at least.
+-- Whatever else lies there, and whatever is gone, is none of its.
 pub record IsLeftOf (facts : Facts) (d : Directory) (lost : Files) : Type 0 where
   pub names : (q : List ℕ) → IsReadIn facts.files d q → contains_key lost q ≡ contains_key facts.files q
   pub logs : (q : List ℕ) → IsLogIn d q → (contains_key lost q ≡ contains_key facts.files q) ⊎ ((contains_key lost q ≡ false) × (facts.synced q ≡ None))
@@ -124,8 +130,8 @@ CutLaw = (order : Order) (facts : Facts) (d : Directory) (lost : Files) → IsCo
 
 -- ---- a loss since the last sync
 
--- The calls since the last sync spare what a directory of these parts reads: no file of it was moved, replaced, made or taken away, but that logs were begun
--- of which nothing is synced.
+-- The calls since the last sync spare what a directory of these parts reads: no file of it was
+-- moved, replaced, made or taken away, but that logs were begun of which nothing is synced.
 pub record AreSpared (facts : Facts) (d : Directory) : Type 0 where
   pub reads : (name : List ℕ) → IsReadIn facts.files d name → StaysNamed facts name
   pub logs : (name : List ℕ) → IsLogIn d name → StaysOrBegins facts name
@@ -134,7 +140,8 @@ pub record AreSpared (facts : Facts) (d : Directory) : Type 0 where
 abbrev pub SparedLaw : Type 0
 SparedLaw = (facts : Facts) (d : Directory) (lost : Files) → AreSpared facts d → Lost facts (moment facts) lost → IsLeftOf facts d lost
 
--- Behind an open the calls since the last sync spare all but the new log, which they may have begun.
+-- Behind an open the calls since the last sync spare all but the new log, which they may have
+-- begun.
 pub record BeginsSpared (facts : Facts) (log : List ℕ) : Type 0 where
   pub others : (name : List ℕ) → name ≢ log → StaysNamed facts name
   pub begun : StaysOrBegins facts log
@@ -149,7 +156,8 @@ IsUncut files lost name = (bytes held : List ℕ) → get files name ≡ Some by
 abbrev pub LeavesUncut : Facts → Files → Type 0
 LeavesUncut facts lost = (name : List ℕ) → IsKept facts name ⊎ IsUncut facts.files lost name
 
--- The device has the names as they are, but for that of the lock's file, which each open makes where it was missing.
+-- The device has the names as they are, but for that of the lock's file, which each open makes
+-- where it was missing.
 abbrev pub HaveNamesStayed : Facts → Type 0
 HaveNamesStayed facts = (name : List ℕ) → name ≢ lock_name → StaysNamed facts name
 
@@ -159,7 +167,8 @@ IsButLock P files = (beside : Files) × ((name : List ℕ) → name ≢ lock_nam
 
 -- ---- in each directory that differs in tables alone
 
--- So is all that such a directory reads, and its tables but for those that the same loss has left there.
+-- So is all that such a directory reads, and its tables but for those that the same loss has left
+-- there.
 pub record IsKeptOver (facts : Facts) (whole after : Files) (d : Directory) : Type 0 where
   pub current : IsKept facts (name_of Current)
   pub manifest : IsKept facts (name_of (Manifest d.manifest))

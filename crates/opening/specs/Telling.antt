@@ -11,14 +11,15 @@ use Rattle.recover.specs.Directory.{Directory, IsConsistent, IsEmpty}
 use Rattle.recover.specs.Reading.{Recovers, IsBeyondReading}
 use Rattle.recover.specs.declared.reading.Recovered.{Recovered}
 
--- It is empty, or its MANIFEST and its logs are whole, and so are the names, sizes and keys of its tables, which aren't read.
--- Without tables it is consistent.
+-- It is empty, or its MANIFEST and its logs are whole, and so are the names, sizes and keys of its
+-- tables, which aren't read. Without tables it is consistent.
 abbrev pub IsOpenable : Order → Files → Type 0
 IsOpenable order files = IsEmpty files
     ⊎ ((recovered : Recovered) × Recovers order files recovered × (recovered.layout.tables.items ≡ [] → (d : Directory) × IsConsistent order files d))
 
--- Damage is neither an empty directory nor a consistent one. What isn't supported is a MANIFEST that is there and says
--- so. There is no database where the directory is empty, and one where `CURRENT` is there.
+-- Damage is neither an empty directory nor a consistent one. What isn't supported is a MANIFEST
+-- that is there and says so. There is no database where the directory is empty, and one where
+-- `CURRENT` is there.
 abbrev pub RefusalTells : Order → Files → DbError → Type 0
 RefusalTells order files (error.Corrupt file what) = (IsEmpty files → ⊥) × ((d : Directory) → IsConsistent order files d → ⊥)
 RefusalTells order files (error.Unsupported what) = IsBeyondReading order files

@@ -30,10 +30,10 @@ use std::rc::Rc;
 use store::Store;
 use versions::Version;
 
-/// What an open has before its database is made.
+/// Holds what an open has before its database is made.
 #[derive(Drop)]
 pub struct Begun<K: KeyOrder> {
-    /// The entries of the logs, sealed where there are some, and the last sequence used.
+    /// The entries of the logs, sealed if there are some, and the last sequence number used.
     pub memory: MemoryTables<K>,
     /// The tables, by level.
     pub version: Rc<Version<K>>,
@@ -43,8 +43,9 @@ pub struct Begun<K: KeyOrder> {
     pub directory: DirectoryState,
 }
 
-/// Reads what is there, and writes MANIFEST, `CURRENT` and the log anew. The lock has to be held, so that nobody else writes. A refusal
-/// leaves what the directory says as it was: those of `find`, OutOfMemory, and Io where the store fails.
+/// Reads what is there, and writes MANIFEST, `CURRENT` and the log anew. The lock has to be held,
+/// so that nobody else writes. A refusal leaves what the directory says as it was: those of `find`,
+/// OutOfMemory, and Io where the store fails.
 pub fn begin<K: KeyOrder, S: Store>(
     alloc: Global,
     store: &mut S,
@@ -74,12 +75,13 @@ pub fn begin<K: KeyOrder, S: Store>(
         → IsContinued (order_of K.name K.cmp) (S.facts store.old).files (S.facts store.new).files }
     ensures continued_each { IsTrue (S.facts store.new).faithful
         → OfEach (λ whole after. IsContinued (order_of K.name K.cmp) whole after) (S.facts store.old).files (S.facts store.new).files }
-    // A stop in its middle leaves that too.
+    // A process crash in its middle leaves that too.
     ensures stops { IsTrue (S.facts store.new).faithful → LeavesOnly (S.facts store.old) (S.facts store.new)
         (IsContinued (order_of K.name K.cmp) (S.facts store.old).files) }
     ensures stops_each { IsTrue (S.facts store.new).faithful → LeavesOnly (S.facts store.old) (S.facts store.new)
         (λ files. OfEach (λ whole after. IsContinued (order_of K.name K.cmp) whole after) (S.facts store.old).files files) }
-    // So does a loss of power, where the device has the names that were there, and it cuts no file short that was.
+    // So does a power loss, if the names that were there are durable and it truncates none of those
+    // files.
     ensures loses { IsTrue (S.facts store.new).faithful → HaveNamesStayed (S.facts store.old)
         → LosesOnly (S.facts store.old) (S.facts store.new)
         (λ lost. LeavesUncut (S.facts store.old) lost → IsButLock (IsContinued (order_of K.name K.cmp) (S.facts store.old).files) lost) }

@@ -3,8 +3,8 @@
 use directory_writes::CurrentManifest;
 use edits::FileNumbers;
 
-/// What an open database knows of its directory, beside its tables and the log that writes go to (LevelDB's db/version_set.h, the
-/// numbers of VersionSet).
+/// Holds what an open database knows of its directory, beside its tables and its current log
+/// (LevelDB's db/version_set.h, the numbers of VersionSet).
 #[derive(Drop)]
 pub struct DirectoryState {
     /// The MANIFEST that `CURRENT` names.
@@ -17,7 +17,7 @@ pub struct DirectoryState {
     pub previous_log: u64,
 }
 
-/// The log that writes go to, which is the last of the directory.
+/// Names the log that writes go to, which is the last of the directory.
 #[derive(Debug, Drop)]
 pub struct CurrentLog {
     /// Its file number.
@@ -26,7 +26,7 @@ pub struct CurrentLog {
     pub name: String,
     /// Its length in bytes, where the next record begins.
     pub end: u64,
-    /// The names of the live logs in front of it that the device may not have whole: those that an open found, which has it keep them
-    /// before it ends, and those before a seal, which the next write has it keep first.
+    /// The names of the earlier logs in use that may not be durable whole. An open found some, and
+    /// syncs them before it ends. A seal left the others, and the next write syncs them first.
     pub front: Vec<String>,
 }

@@ -1,4 +1,4 @@
-//! The store's calls by which an open writes, with the database's refusals.
+//! The store's calls by which an open writes, with the database's errors.
 
 ghost use Rattle.std.specs.Prelude.{◌≡◌, ◌≢◌, ◌⊎◌, IsTrue, List, [], OnOk, ℕ, false};
 ghost use Rattle.std.specs.FinMap.{contains_key};
@@ -16,7 +16,7 @@ use coding::DbError;
 use directory_writes::{create_file, refusal_of};
 use store::Store;
 
-/// Writes a file anew, and has the device keep it.
+/// Writes a file anew, and syncs it.
 pub fn write_file<S: Store>(store: &mut S, name: &str, bytes: &[u8]) -> Result<(), DbError>
     ensures files { Writes (S.facts store.old) (S.facts store.new) name.now bytes.now result }
     ensures synced { WritesSynced (S.facts store.old) (S.facts store.new) name.now bytes.now result }
@@ -35,8 +35,9 @@ pub fn write_file<S: Store>(store: &mut S, name: &str, bytes: &[u8]) -> Result<(
     Ok(())
 }
 
-/// Writes `CURRENT`, by way of a temporary file that takes its name, and has the device keep that it did, so that what the `CURRENT` in front
-/// of it named may go. (LevelDB's db/filename.cc, SetCurrentFile, leaves that to the order in which names reach the device.)
+/// Writes `CURRENT` by way of a temporary file that takes its name, and syncs that, so that what
+/// the earlier `CURRENT` named may be removed. (LevelDB's db/filename.cc, SetCurrentFile, leaves
+/// that to the order in which names reach the disk.)
 pub fn make_current<S: Store>(store: &mut S, temporary: &str, bytes: &[u8]) -> Result<(), DbError>
     ensures files { MakesCurrent (S.facts store.old) (S.facts store.new) temporary.now bytes.now result }
     ensures synced { MakesSynced (S.facts store.old) (S.facts store.new) temporary.now bytes.now result }
@@ -44,11 +45,11 @@ pub fn make_current<S: Store>(store: &mut S, temporary: &str, bytes: &[u8]) -> R
         (λ files. KeepsOthers (S.facts store.old).files files temporary.now
         ⊎ SetsCurrent (S.facts store.old).files files temporary.now bytes.now) }
     ensures ends { IsTrue (S.facts store.new).faithful → OnOk result (behind_sync [] (S.facts store.new).calls ≡ []) }
-    // So does a loss of power, where it cuts no file short that was there.
+    // So does a power loss, if it truncates no file that was there.
     ensures loses { IsTrue (S.facts store.new).faithful → temporary.now ≢ name_of Current → ((name : List ℕ) → StaysNamed (S.facts store.old) name)
         → LosesOnly (S.facts store.old) (S.facts store.new) (λ lost. LeavesUncut (S.facts store.old) lost
         → KeepsOthers (S.facts store.old).files lost temporary.now ⊎ SetsCurrent (S.facts store.old).files lost temporary.now bytes.now) }
-    // Call by call, and all of it where it is accepted.
+    // Call by call, and all of it if it succeeds.
     ensures sets { IsTrue (S.facts store.new).faithful → temporary.now ≢ name_of Current
         → SetsThen (S.facts store.old) (S.facts store.new) temporary.now bytes.now (λ last. last ≡ (S.facts store.new)) }
     ensures whole { IsTrue (S.facts store.new).faithful → temporary.now ≢ name_of Current

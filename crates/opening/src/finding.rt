@@ -17,25 +17,25 @@ use recover::{Listing, LogSummary, first_number, list_directory};
 use std::alloc::{AllocError, Global};
 use store::Store;
 
-/// What an open found, and the file number that it draws.
+/// Holds what an open found, and the file number that it draws.
 #[derive(Drop)]
 pub struct Found {
-    /// The layout; one of nothing where there is no database.
+    /// The layout; one of nothing if there is no database.
     pub layout: Layout,
-    /// The entries of the live logs, as they were written.
+    /// The entries of the logs in use, as they were written.
     pub entries: Vec<Entry>,
     /// What is reported of each of these logs.
     pub logs: Vec<LogSummary>,
-    /// The last sequence used.
+    /// The last sequence number used.
     pub used: u64,
     /// The number of the new MANIFEST; the new log has the next one.
     pub number: u64,
 }
 
-/// Reads what is there, where the mode allows it: `NoDatabase` for an empty directory where one is wanted, `Exists` for
-/// one with `CURRENT` where none is, `NumbersSpent` where the new numbers would be 2^62 or more. Corrupt as
-/// `read_directory`, and where there is no `CURRENT` but a log or a table, whatever the mode is; Unsupported as
-/// `read_directory`. No table is read.
+/// Reads what is there, if the mode allows it. No table is read. `NoDatabase`: the directory is
+/// empty and a database is wanted. `Exists`: it has `CURRENT` and none is wanted. `NumbersSpent`:
+/// the new numbers would be 2^62 or more. Corrupt: as `read_directory`, and in every mode if there
+/// is a log or a table but no `CURRENT`. Unsupported: as `read_directory`.
 pub fn find<K: KeyOrder, S: Store>(
     alloc: Global,
     store: &mut S,

@@ -1,5 +1,5 @@
-//! What an open finds in a directory and what it writes there, before there is a database: no contract here names an open one
-//! (LevelDB's db/db_impl.cc, DBImpl::Recover and DBImpl::NewDB).
+//! What an open finds in a directory and what it writes there, before there is a database. No
+//! contract here names an open one (LevelDB's db/db_impl.cc, DBImpl::Recover and DBImpl::NewDB).
 #![tactic(auto)]
 
 mod beginning;

@@ -1,5 +1,5 @@
-//! What a directory holds, and what is in memory of it, before anything is done to it: the half of an open that only reads (LevelDB's
-//! db/db_impl.cc, DBImpl::Recover).
+//! What a directory holds, and what is in memory of it, before anything is done to it. This is the
+//! half of an open that only reads (LevelDB's db/db_impl.cc, DBImpl::Recover).
 
 ghost use Rattle.std.specs.Prelude.{◌≡◌, ◌≤◌, ◌<◌, ◌^◌, IfOk, IfErr, IfSome, IsTrue};
 ghost use Rattle.coding.specs.declared.error.DbError.TheVariants.{OutOfMemory};
@@ -21,8 +21,9 @@ use std::rc::Rc;
 use store::Store;
 use versions::Version;
 
-/// What is there: `None` where the directory is empty. Corrupt as `read_directory`, and where there is no `CURRENT` but a log or a
-/// table; Unsupported as `read_directory`. No table is read.
+/// Reads what is there: `None` if the directory is empty. No table is read. Corrupt: as
+/// `read_directory`, and if there is a log or a table but no `CURRENT`. Unsupported: as
+/// `read_directory`.
 pub fn look<K: KeyOrder, S: Store>(
     alloc: Global,
     store: &mut S,
@@ -37,7 +38,7 @@ pub fn look<K: KeyOrder, S: Store>(
     look_at::<K, S>(alloc, store, &listing)
 }
 
-/// The same, where the directory was listed.
+/// Reads the same of a directory that was listed.
 pub fn look_at<K: KeyOrder, S: Store>(
     alloc: Global,
     store: &mut S,
@@ -66,7 +67,8 @@ pub fn look_at<K: KeyOrder, S: Store>(
     Ok(None)
 }
 
-/// The entries of these logs, sealed where there are some, since nothing more is written to them; and the last sequence used.
+/// Makes memtables of the entries of these logs, with the last sequence number used. They are
+/// sealed if there are some, since nothing more is written to them.
 pub fn sealed_memory<K: KeyOrder>(
     alloc: Global,
     entries: &[Entry],
@@ -84,7 +86,8 @@ pub fn sealed_memory<K: KeyOrder>(
     Ok(memory)
 }
 
-/// The version that has the tables of a layout. Tables whose ranges are in order make one, so that only memory can be short.
+/// Makes the version that has the tables of a layout. Tables whose ranges are in order make one, so
+/// that it fails only out of memory.
 pub fn version_of<K: KeyOrder>(alloc: Global, layout: &Layout) -> Result<Rc<Version<K>>, DbError>
     requires kept { IsKept layout.now }
     requires ranges { HaveRanges (order_of K.name K.cmp) layout.now.tables.items }

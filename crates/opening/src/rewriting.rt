@@ -1,5 +1,5 @@
-//! What an open writes: a new MANIFEST, `CURRENT`, and a new log (LevelDB's db/db_impl.cc, DBImpl::NewDB, and
-//! db/version_set.cc, VersionSet::LogAndApply).
+//! What an open writes: a new MANIFEST, `CURRENT`, and a new log (LevelDB's db/db_impl.cc,
+//! DBImpl::NewDB, and db/version_set.cc, VersionSet::LogAndApply).
 
 ghost use Rattle.std.specs.Prelude.{◌≡◌, ◌<◌, ◌+◌, ◌^◌, ◌++◌, ◌∷◌, [], IfOk, IfErr, IsTrue, OnOk, length, map, string_bytes};
 ghost use Rattle.coding.specs.declared.error.DbError.TheVariants.{OutOfMemory};
@@ -29,7 +29,7 @@ use recover::{
 use std::alloc::{AllocError, Global};
 use store::Store;
 
-/// The names and the bytes that an open writes.
+/// Holds the names and the bytes that an open writes.
 #[derive(Debug, Drop)]
 pub struct Rewrite {
     /// The name of the new MANIFEST.
@@ -42,11 +42,11 @@ pub struct Rewrite {
     pub current: Vec<u8>,
     /// The name of the new log.
     pub log_name: String,
-    /// The names of the logs in front of it, where they have entries.
+    /// The names of the logs before it that have entries.
     pub front: Vec<String>,
 }
 
-/// All that an open writes, before it writes any of it.
+/// Plans all that an open writes, before it writes any of it.
 pub fn plan_rewrite<K: KeyOrder>(alloc: Global, found: &Found) -> Result<Rewrite, DbError>
     requires { IsUsable (order_of K.name K.cmp) found.now }
     ensures planned { IfOk result (IsRewrite (order_of K.name K.cmp) found.now) }
@@ -69,7 +69,7 @@ pub fn plan_rewrite<K: KeyOrder>(alloc: Global, found: &Found) -> Result<Rewrite
     })
 }
 
-// The names of the logs that were found, where they have entries: who wrote these may not have had the device keep them.
+// The names of the logs that were found and have entries: their writer may not have synced them.
 fn logs_in_front(alloc: Global, found: &Found) -> Result<Vec<String>, AllocError>
     ensures { IfOk result (λ names. IsFront found.now (map string_bytes names.items)) }
 {
@@ -83,7 +83,7 @@ fn logs_in_front(alloc: Global, found: &Found) -> Result<Vec<String>, AllocError
     Ok(names)
 }
 
-// Puts the name of a log behind the others. (None has the number 0.)
+// Adds the name of a log to the others. (None has the number 0.)
 fn push_name(alloc: Global, names: &mut Vec<String>, log: &LogSummary) -> Result<(), AllocError>
     ensures { OnOk result (map string_bytes names.new.items ≡ map string_bytes names.old.items ++ names_of_log log.now.number) }
 {
@@ -105,16 +105,16 @@ fn current_content(alloc: Global, name: &str) -> Result<Vec<u8>, AllocError>
     Ok(content)
 }
 
-// The numbers by which a layout says which logs are live.
+// The numbers by which a layout says which logs are in use.
 #[derive(Clone, Copy, Debug)]
 struct LiveLogs {
     // this number and those above it
     from: u64,
-    // and this one, where it isn't 0
+    // and this one, if it isn't 0
     previous: u64,
 }
 
-// Where the logs have entries they stay live; else the new log is the first.
+// If the logs have entries they stay in use; else the new log is the first.
 fn live_logs(found: &Found) -> LiveLogs
     requires { found.now.number + 1 < 2 ^ 62 }
     ensures { KeepsLogs found.now result.from result.previous }
@@ -151,7 +151,8 @@ fn new_manifest<K: KeyOrder>(alloc: Global, found: &Found) -> Result<Vec<u8>, Db
     LogWriter::encode(alloc, 0, &payload)
 }
 
-/// What is known of the directory once that is written, with a MANIFEST of this name and length.
+/// Returns what is known of the directory once that is written, with a MANIFEST of this name and
+/// length.
 pub fn known_after(found: &Found, name: String, end: u64) -> DirectoryState
     requires { found.now.number + 1 < 2 ^ 62 }
     ensures { IsKnownAfter found.now (string_bytes name) end result }
@@ -171,8 +172,8 @@ pub fn known_after(found: &Found, name: String, end: u64) -> DirectoryState
     }
 }
 
-/// Writes a new MANIFEST, makes it current, and makes an empty log. What a consistent directory says stays, wherever it
-/// ends.
+/// Writes a new MANIFEST, makes it current, and makes an empty log. What a consistent directory
+/// says stays, wherever it ends.
 pub fn rewrite_directory<K: KeyOrder, S: Store>(
     store: &mut S,
     found: &Found,
@@ -195,7 +196,7 @@ pub fn rewrite_directory<K: KeyOrder, S: Store>(
         (S.facts store.old).files files) }
     ensures since { IsTrue (S.facts store.new).faithful → Finds (order_of K.name K.cmp) (S.facts store.old).files found.now
         → OnOk result (BeginsSpared (S.facts store.new) (string_bytes rewrite.now.log_name)) }
-    // So is what a loss of power leaves in its middle, where it cuts no file short that was there.
+    // So is what a power loss in its middle leaves, if it truncates no file that was there.
     ensures loses { IsTrue (S.facts store.new).faithful → Finds (order_of K.name K.cmp) (S.facts store.old).files found.now
         → HaveNamesStayed (S.facts store.old) → LosesOnly (S.facts store.old) (S.facts store.new)
         (λ lost. LeavesUncut (S.facts store.old) lost → IsButLock (IsContinued (order_of K.name K.cmp) (S.facts store.old).files) lost) }

@@ -1,4 +1,4 @@
-//! A database in an order of one's own: numbers as keys, which a range has by their value.
+//! A database in a custom order: numbers as keys, which a range has by their value.
 #![tactic(auto)]
 
 mod shorter_first;

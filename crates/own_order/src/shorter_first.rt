@@ -1,4 +1,4 @@
-// An order of one's own: numbers as keys, by their value. `docs/ORDERS.md` explains it line by line.
+// A custom order: numbers as keys, by their value. `docs/ORDERS.md` explains it line by line.
 
 ghost use Rattle.std.specs.Prelude.{codes, length};
 ghost use Rattle.std.proofs.Common.{lit<};
@@ -10,8 +10,8 @@ ghost use Rattle.own_order.specs.ShorterFirst.{shorter_first_exact};
 use ikey::KeyOrder;
 use std::cmp::Ordering;
 
-/// The shorter key first, and of one length the first byte that differs decides. So numbers without a zero in front, in decimal as in
-/// big-endian bytes, stand by their value.
+/// Orders the shorter key first; of one length the first byte that differs decides. So numbers
+/// without a zero in front, in decimal as in big-endian bytes, come by their value.
 pub struct ShorterFirst;
 
 impl KeyOrder for ShorterFirst {

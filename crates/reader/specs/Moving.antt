@@ -35,7 +35,7 @@ MayBeginWalk cmp map whole iterator = (pairs : List (List ℕ × List ℕ)) × A
 abbrev pub KeepsMayBe : {K : Type 0} {g : _} → (List ℕ → List ℕ → Ordering) → Scan K g → Whole → Whole → Type 0
 KeepsMayBe cmp scan old new = (walk : Walk) → MayBeWalk cmp old scan walk → MayBeWalk cmp new scan walk
 
--- what an iterator answers from: its sequence, and the key on which it stands
+-- what an iterator answers from: its sequence number, and the key on which it stands
 abbrev pub standing : {K : Type 0} {g : _} → Scan K g → ℕ × Option (List ℕ)
 standing scan = (scan.walk.sequence, if scan.walk.stands then Some scan.walk.here.key.items else None)
 
@@ -52,8 +52,8 @@ abbrev pub MayRefuseMotion : Motion → DbError → Type 0
 MayRefuseMotion motion error.NoPlace = needs_place motion ≡ true
 MayRefuseMotion motion e = IsReadError e
 
--- Where a move has led an iterator that was this walk: to the place of the motion, with the pair there, or, refused, to where
--- it stood.
+-- Where a move has led an iterator that was this walk: to the place of the motion, with the pair
+-- there, or, refused, to where it stood.
 abbrev pub MovesTo : {K : Type 0} {g : _} → (List ℕ → List ℕ → Ordering) → Motion → Bool → Whole → Scan K g → Walk → Result (Option (List ℕ × List ℕ)) DbError → Type 0
 MovesTo cmp motion limited after new walk (Ok pair) =
     IsWalk cmp limited after new (record walk { place = place_after cmp motion walk }) × (pair ≡ pair_at walk.pairs (place_after cmp motion walk))

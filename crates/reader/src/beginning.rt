@@ -22,8 +22,8 @@ use store::Store;
 use table_access::empty_is_sound;
 use versions::Version;
 
-/// Reads the directory of a store into memory, but for its tables, and answers its version. `NoDatabase` for an empty one. Nothing that
-/// was kept of tables before stays.
+/// Reads the directory of a store into memory, but for its tables, and answers its version.
+/// `NoDatabase` for an empty one. Nothing that was kept of tables before stays.
 pub fn begin<K: KeyOrder, S: Store>(
     alloc: Global,
     source: &mut Sources<K, S>,

@@ -1,4 +1,5 @@
-//! A database that is looked at: its directory is read, and nothing in it is changed; begin at reader.rt.
+//! A database that is looked at: its directory is read, and nothing in it is changed; begin at
+//! reader.rt.
 #![tactic(auto)]
 
 mod beginning;

@@ -1,6 +1,6 @@
 //! Moves of an iterator, as its calls name them.
 
-/// How an iterator is moved.
+/// Tells how an iterator is moved.
 #[derive(Clone, Copy, Debug)]
 pub enum Movement<'a> {
     First,

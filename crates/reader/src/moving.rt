@@ -16,7 +16,7 @@ use std::alloc::Global;
 use store::Store;
 
 impl Movement<'_> {
-    /// Whether it starts from a place.
+    /// Returns whether it starts from a place.
     pub fn needs_place(&self) -> bool
         ensures { result ≡ needs_place (motion_of self.now) }
     {
@@ -30,8 +30,9 @@ impl Movement<'_> {
     }
 }
 
-/// Moves an iterator, and answers a copy of the pair on which it stands then: nothing where there is none. `NoPlace` for a
-/// step of one that stands nowhere. Where the move or the copy is refused, it stays where it stood.
+/// Moves an iterator, and returns a copy of the pair on which it stands then, or None if there is
+/// none. `NoPlace`: a step of an iterator that stands nowhere. If the move or the copy fails, it
+/// stays where it stood.
 pub fn move_iterator<K: KeyOrder, S: Store>(
     alloc: Global,
     source: &mut Sources<K, S>,
@@ -40,7 +41,7 @@ pub fn move_iterator<K: KeyOrder, S: Store>(
 ) -> Result<Option<(Bytes, Bytes)>, DbError>
     ensures moved { IsMoved K.cmp (motion_of movement.entry) (whole_in S.facts source.old)
         (whole_in S.facts source.new) scan.old scan.new result }
-    // Where there is no place to step from, nothing is done.
+    // If there is no place to step from, nothing is done.
     ensures undone { MatchOption (lacks_place scan.old.walk.stands (motion_of movement.entry)) (Unit {0}) (λ _. source.new ≡ source.old) }
 {
     let stood = scan.stands();

@@ -5,8 +5,9 @@ ghost use Rattle.std.specs.Prelude.{◌≡◌, ◌≤◌};
 use std::alloc::Global;
 use store::{Store, StoreError, Trouble};
 
-/// A store of which only the reading calls are used, `list`, `len`, `read_at` and `read_into`. Each call that changes files or asks for the
-/// lock fails here, and never comes to the store within: so whoever is given one can't change a file, whatever that store is.
+/// Wraps a store of which only the reading calls are used: `list`, `len`, `read_at` and
+/// `read_into`. Each call that changes files or asks for the lock fails here, and never comes to
+/// the store within. So a holder of it can't change a file, whatever that store is.
 #[derive(Drop)]
 pub struct ReadOnly<S> {
     inner: S,
@@ -20,7 +21,7 @@ impl<S: Store> ReadOnly<S> {
     ghost use Rattle.std.specs.Prelude.{◌<◌, ◌+◌, ◌^◌, ◌≢◌, false, Err, IfErr, IsTrue};
     ghost use Rattle.store.specs.declared.error.StoreError.TheVariants.{Device, Missing};
 
-    /// This store, of which no call has failed here yet. It isn't called.
+    /// Wraps a store. No call has failed here yet. The store isn't called.
     pub fn over(inner: S) -> Self
         ensures { looked_at S.facts result ≡ record (S.facts inner) { locked = false; failures = 0; write_failures = 0 } }
     {
@@ -31,7 +32,7 @@ impl<S: Store> ReadOnly<S> {
         }
     }
 
-    /// The store within.
+    /// Returns the store within.
     pub fn into_inner(self) -> S
         ensures files { (S.facts result).files ≡ (looked_at S.facts self).files }
         ensures synced { (S.facts result).synced ≡ (looked_at S.facts self).synced }
@@ -40,7 +41,8 @@ impl<S: Store> ReadOnly<S> {
         self.inner
     }
 
-    // Answers Device for a call that isn't made, and that writes nothing, and counts it; or Ok, where no further failure can be counted.
+    // Counts a call that isn't made and that writes nothing, and answers Device. Ok if no further
+    // failure can be counted.
     fn refuse(&mut self) -> Result<(), StoreError>
         ensures kept { IsKeptOut self.old self.new result }
         ensures writes { self.new.write_failures ≡ self.old.write_failures }
@@ -67,7 +69,8 @@ impl<S: Store> ReadOnly<S> {
         Err(StoreError::Device)
     }
 
-    // The error of a call that isn't made, and that writes: Device, which is counted, or Memory, where no further failure can be counted.
+    // The error of a call that isn't made and that writes: Device, which is counted, or Memory if
+    // no further failure can be counted.
     fn write_refusal(&mut self) -> StoreError
         ensures kept { IsKeptOut {T = Unit {0}} self.old self.new (Err result) }
         ensures writes { self.new.write_failures + self.old.failures ≡ self.old.write_failures + self.new.failures }

@@ -19,16 +19,18 @@ use table_access::Tables;
 use version_laws::version_of_directory;
 use versions::Version;
 
-/// A database that is looked at: the map that its directory had at its last sequence when it was opened. `K` is the order of its
-/// user keys. No lock is taken and no file is changed. What another process writes meanwhile isn't seen; where it removes a file that
-/// is still to be read, the call is refused.
+/// Holds a database that is only read: the map that its directory had at its last sequence number
+/// when it was opened. `K` is the order of its user keys. No lock is taken and no file is changed.
+/// What another process writes meanwhile isn't seen. If it removes a file that is still to be read,
+/// the call fails.
 #[derive(Drop)]
 pub struct Reader<S, K: KeyOrder> {
     source: Sources<K, ReadOnly<S>>,
     version: Rc<Version<K>>,
 }
 
-/// A walk over the pairs of a reader's map, in the order of their keys. It stands nowhere at first.
+/// Holds an iteration over the pairs of a reader's map, in the order of their keys. It stands
+/// nowhere at first.
 #[derive(Drop)]
 pub struct ReaderWalk<K: KeyOrder> {
     scan: Scan<K>,
@@ -51,15 +53,17 @@ impl<S: Store, K: KeyOrder> Reader<S, K> {
     ghost use Rattle.reader.specs.Readers.{facts_of, whole_of, scan_of, store_of, last_of};
     ghost use Rattle.reader.specs.Readers.{HoldsDirectory, RefusesGet, ShowsMap, KeepsMaps, KeepsMayMaps, MayShowMap};
 
-    /// Reads `CURRENT`, the MANIFEST and the logs, and sees that each table is there with its length. `NoDatabase` for an empty
-    /// directory, Corrupt and Unsupported as an open of a database. It asks for no lock and draws no number. So many blocks are kept in
-    /// memory, as they are read. A refusal hands the store back.
+    /// Reads `CURRENT`, the MANIFEST and the logs, and sees that each table is there with its
+    /// length. `NoDatabase` for an empty directory, Corrupt and Unsupported as an open of a
+    /// database. It asks for no lock and draws no number. So many blocks are kept in memory, as
+    /// they are read. An error returns the store.
     pub fn open(
         alloc: Global,
         store: ReadOnly<S>,
         cache_blocks: NonZeroUsize,
     ) -> Result<Self, (DbError, ReadOnly<S>)>
-        // While the store is faithful, it shows the map of the directory, wherever that is consistent.
+        // While the store is faithful, it shows the map of the directory, wherever that is
+        // consistent.
         ensures shows { IfOk result (λ reader. IsTrue (facts_of S.facts reader).faithful → (d : Directory) (map : Contents)
             → IsConsistent (order_of K.name K.cmp) (looked_at S.facts store).files d → IsView (entries_in d) (used_in d) map
             → ShowsMap (order_of K.name K.cmp) S.facts reader map) }
@@ -82,12 +86,12 @@ impl<S: Store, K: KeyOrder> Reader<S, K> {
         }
     }
 
-    /// The value of a user key.
+    /// Returns the value of a user key.
     pub fn get(&mut self, alloc: Global, key: &[u8]) -> Result<Option<Bytes>, DbError>
         // While the store is faithful, it is that of the map that is shown.
         ensures found { IfOk result (λ value. IsTrue (facts_of S.facts self.new).faithful → (map : Contents)
             → ShowsMap (order_of K.name K.cmp) S.facts self.old map → value ≡ get map key.now) }
-        // So it is of each map that its tables may have, as far as their blocks tell.
+        // The same for each map that its tables may have, as far as their blocks tell.
         ensures may { IfOk result (λ value. IsTrue (facts_of S.facts self.new).faithful → (map : Contents)
             → MayShowMap (order_of K.name K.cmp) S.facts self.old map → value ≡ get map key.now) }
         ensures may_show { KeepsMayMaps (order_of K.name K.cmp) S.facts self.old self.new }
@@ -104,7 +108,7 @@ impl<S: Store, K: KeyOrder> Reader<S, K> {
         value_of(alloc, &mut self.source, &self.version, key)
     }
 
-    /// A walk over all pairs of the map. Nothing is read.
+    /// Makes an iteration over all pairs of the map. Nothing is read.
     pub fn walk(&self, alloc: Global) -> Result<ReaderWalk<K>, AllocError>
         ensures begins { IfOk result (λ walk. (map : Contents) → ShowsMap (order_of K.name K.cmp) S.facts self.now map
             → BeginsWalk K.cmp true map (whole_of S.facts self.now) (scan_of walk)) }
@@ -119,8 +123,9 @@ impl<S: Store, K: KeyOrder> Reader<S, K> {
         Ok(ReaderWalk { scan })
     }
 
-    /// Moves a walk, and answers a copy of the pair on which it stands then: nothing where there is none. `NoPlace` for a step of one
-    /// that stands nowhere. A refused move leaves it where it stood.
+    /// Moves an iteration, and returns a copy of the pair on which it stands then, or None if there
+    /// is none. `NoPlace`: a step of one that stands nowhere. A move that fails leaves it where it
+    /// stood.
     pub fn go(
         &mut self,
         alloc: Global,
@@ -138,29 +143,30 @@ impl<S: Store, K: KeyOrder> Reader<S, K> {
         move_iterator(alloc, &mut self.source, &mut walk.scan, movement)
     }
 
-    /// The last sequence used.
+    /// Returns the last sequence number that was used.
     pub fn last_sequence(&self) -> u64
         ensures { result ≡ last_of self.now }
     {
         self.source.memory.last()
     }
 
-    /// The store.
+    /// Returns the store.
     pub fn store(&self) -> &ReadOnly<S>
         ensures { result.now ≡ store_of self.now }
     {
         &self.source.tables.store
     }
 
-    /// Why a call was refused, beside the refusal itself: the note that the store took last, with the file, the place in it, what was found
-    /// and what was wanted, and the system's error. It may be of an earlier refusal, or of none; as text it is a line without the file's name.
+    /// Returns why a call failed, beside the error itself: the last note that the store took. It
+    /// has the file, the place in it, what was found, what was wanted, and the system's error. It
+    /// may be of an earlier failure, or empty. Its text is a line without the file's name.
     pub fn trouble(&self) -> Trouble
         ensures { result ≡ S.told (store_of self.now).inner }
     {
         self.source.tables.store.noted()
     }
 
-    /// The store, and nothing of what was kept.
+    /// Returns the store, and drops all that was kept.
     pub fn into_store(self) -> ReadOnly<S>
         ensures { result ≡ store_of self }
     {

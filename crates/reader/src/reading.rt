@@ -21,7 +21,8 @@ use version_get::value_in_tables;
 use version_laws::version_of_directory;
 use versions::Version;
 
-/// The value of a user key at the last sequence: that of the logs, where the key is seen there, and else that of the tables.
+/// Returns the value of a user key at the last sequence number. The logs answer if the key is seen
+/// there, else the tables.
 pub fn value_of<K: KeyOrder, S: Store>(
     alloc: Global,
     source: &mut Sources<K, S>,

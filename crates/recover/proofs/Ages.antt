@@ -1,4 +1,5 @@
--- Tables whose merged entries come as they may are as old as they have to be, and the other way round.
+-- Tables whose merged entries come as they may are as old as they have to be, and the other way
+-- round.
 use Rattle.std.proofs.Common.{◌≡◌, ◌⊎◌, inl, inr, ◌<◌, ◌≤◌, ℕ, zero, suc, List, [], ◌∷◌, Some, None, refl, sym, ap, ◌∙◌, subst, arith}
 use Rattle.std.proofs.lemmas.Bool.{cases_lt, cases_eq}
 use Rattle.std.specs.Prelude.{slice_get}

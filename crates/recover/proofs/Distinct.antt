@@ -1,4 +1,4 @@
--- No two entries of a consistent directory share a key and a sequence.
+-- No two entries of a consistent directory share a key and a sequence number.
 use Rattle.std.proofs.Common.{◌≡◌, ◌≢◌, inl, inr, ℕ, ◌<◌, ◌≤◌, List, [], ◌∷◌, ◌++◌, map, refl, sym, subst, arith}
 use Rattle.std.specs.Cmp.{IsTotalOrder}
 use Rattle.std.proofs.lemmas.Bool.{cases_lt}
@@ -19,7 +19,7 @@ use Rattle.recover.proofs.Memberships.{from_tabled}
 use Rattle.recover.proofs.Flushing.{kept_by}
 use Rattle.recover.proofs.Closed.{not_above, no_same}
 
--- of the same key they have other sequences
+-- of the same key they have other sequence numbers
 abbrev Differ : Entry → Entry → Type 0
 Differ e f = e.key ≡ f.key → e.sequence ≢ f.sequence
 

@@ -53,7 +53,7 @@ stamped [] s i = absurd i
 stamped (l ∷ logged) s (inl same) = (0, l, refl, same)
 stamped (l ∷ logged) s (inr i) = let r = stamped logged s i in (suc r.0, r.1, r.2, r.3)
 
--- each of the second has one of the first of its key and sequence
+-- each of the second has one of the first of its key and sequence number
 abbrev Covers : List Entry → List Entry → Type 0
 Covers xs ys = (y : Entry) → Among ys y → (x : Entry) × Among xs x × (x.key ≡ y.key) × (x.sequence ≡ y.sequence)
 

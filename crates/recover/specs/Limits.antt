@@ -18,7 +18,8 @@ use Rattle.recover.specs.Report.{IsLongTable, AnyHasBytes}
 
 -- ---- tables
 
--- the bytes have a block that isn't supported: one of more than 2 ^ 30 bytes, or of another type than 0
+-- the bytes have a block that isn't supported: one of more than 2 ^ 30 bytes, or of another type
+-- than 0
 abbrev pub IsUnsupportedTable : Order → List ℕ → Type 0
 IsUnsupportedTable order bytes = IsFrameUnsupported bytes ⊎ ((frame : Frame) × IsFrame order.cmp bytes frame × IsOfOne (IsUnsupported bytes) frame.places)
 
@@ -43,7 +44,8 @@ abbrev pub IsBeyondChecking : Order → Files → Type 0
 IsBeyondChecking order files = IsBeyondReading order files
     ⊎ ((number : ℕ) × (edits : List (List Field)) × (layout : Layout) × HasManifest order files number edits layout × AnyIsUnsupported order files layout.tables.items)
 
--- Whatever consistent directory the files are, it passes a limit of reading: on the numbers of tables, or on blocks.
+-- Whatever consistent directory the files are, it passes a limit of reading: on the numbers of
+-- tables, or on blocks.
 abbrev pub PassesLimit : Order → Files → Type 0
 PassesLimit order files = (d : Directory) → IsConsistent order files d → HasPastLimit (fields_of d.edits) ⊎ AnyHasBytes (IsLongTable order) files d.tables
 

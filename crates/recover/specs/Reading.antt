@@ -1,5 +1,5 @@
--- What the names of a directory say, what reading its MANIFEST and its logs gives, and why it is refused
--- (LevelDB's db/db_impl.cc, DBImpl::Recover).
+-- What the names of a directory say, what reading its MANIFEST and its logs gives, and why it is
+-- refused (LevelDB's db/db_impl.cc, DBImpl::Recover).
 use Rattle.std.specs.Prelude.{◌≡◌, ◌⊎◌, ◌<◌, ◌≤◌, ◌-◌, ◌^◌, ◌↔◌, ℕ, min, max, true, List, [], ◌∷◌, ◌++◌, map, length, take, IsTrue, MatchBool, Result, Ok, Err, Contains, Some, None}
 use Rattle.std.specs.FinMap.{get, contains_key}
 use Rattle.coding.specs.declared.error.DbError.{DbError}
@@ -25,8 +25,8 @@ use Rattle.recover.specs.Report.{log_summary}
 use Rattle.recover.specs.Numbers.{number_of, IsNextNumber}
 use Rattle.recover.specs.Directory.{Directory, IsConsistent, AreEdits, HasManifest}
 
--- A call that only reads: what holds of any store, and while it is faithful that the files and what of them is synced stay, and that
--- it does none of the calls that change something.
+-- A call that only reads: what holds of any store, and while it is faithful that the files and what
+-- of them is synced stay, and that it does none of the calls that change something.
 pub record ReadsDirectory {T : Type 0} (old new : Facts) (result : Result T DbError) : Type 0 where
   pub faithful : IsTrue new.faithful → IsTrue old.faithful
   pub failures : old.failures ≤ new.failures
@@ -89,8 +89,8 @@ IsNumberUpTo order files number = (n : ℕ) × IsNextNumber order files n × (nu
 
 -- ---- contents
 
--- What was read of a directory: its MANIFEST, and its live logs. Of the tables, which aren't read, their files are there
--- with the sizes of their edits, and the keys of these are in order.
+-- What was read of a directory: its MANIFEST, and its live logs. Of the tables, which aren't read,
+-- their files are there with the sizes of their edits, and the keys of these are in order.
 pub record Recovers (order : Order) (files : Files) (recovered : Recovered) : Type 0 where
   pub number : ℕ
   pub edits : List (List Field)
@@ -104,8 +104,8 @@ pub record Recovers (order : Order) (files : Files) (recovered : Recovered) : Ty
   pub used : recovered.used ≡ max recovered.layout.last_sequence (greatest (logged contents))
   pub next_number : IsNumberUpTo order files recovered.next_number
 
--- Why a directory wasn't read: out of memory, since the store failed, since it isn't consistent, or since it has
--- what isn't supported.
+-- Why a directory wasn't read: out of memory, since the store failed, since it isn't consistent, or
+-- since it has what isn't supported.
 abbrev pub RefusesDirectory : DbError → Facts → Facts → Type 0 → Type 0 → Type 0
 RefusesDirectory error.OutOfMemory old new damaged unsupported = Unit {0}
 RefusesDirectory error.Io old new damaged unsupported = old.failures < new.failures
@@ -120,8 +120,8 @@ IsInconsistent order files = (d : Directory) → IsConsistent order files d → 
 abbrev pub HasNoManifest : Order → Files → Type 0
 HasNoManifest order files = (number : ℕ) (edits : List (List Field)) (layout : Layout) → HasManifest order files number edits layout → ⊥
 
--- The bytes are a log, and so many of its first records are edits that name a table past the limit of numbers, or all
--- of them are edits, of another order of keys.
+-- The bytes are a log, and so many of its first records are edits that name a table past the limit
+-- of numbers, or all of them are edits, of another order of keys.
 pub record SpellsBeyond (order : Order) (bytes : List ℕ) : Type 0 where
   pub records : List (List ℕ)
   pub tail : Tail

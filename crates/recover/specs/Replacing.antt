@@ -20,14 +20,15 @@ LiesBelow order content entries = (e f : Entry) → Among content.entries e → 
 abbrev pub LiesAbove : Order → TableContent → List Entry → Type 0
 LiesAbove order content entries = (e f : Entry) → Among content.entries e → Among entries f → ComesBefore order f e
 
--- The inputs may be replaced by tables of this level: of the tables that stay, those above it are newer than the inputs,
--- those below it are older, and those of the level itself lie beside all of the inputs.
+-- The inputs may be replaced by tables of this level: of the tables that stay, those above it are
+-- newer than the inputs, those below it are older, and those of the level itself lie beside all of
+-- the inputs.
 pub record MayReplace (order : Order) (inputs rest : List TableContent) (level : ℕ) : Type 0 where
   pub newer : (stays input : TableContent) → InTables rest stays → InTables inputs input → stays.placed.level < level → AreNewer stays input
   pub older : (stays input : TableContent) → InTables rest stays → InTables inputs input → level < stays.placed.level → AreNewer input stays
   pub beside : (stays : TableContent) → InTables rest stays → stays.placed.level ≡ level → LiesBelow order stays (tabled inputs) ⊎ LiesAbove order stays (tabled inputs)
 
--- no two of them have the same key and the same sequence
+-- no two of them have the same key and the same sequence number
 abbrev pub AreDistinct : List Entry → Type 0
 AreDistinct [] = Unit {0}
 AreDistinct (entry ∷ entries) = ((other : Entry) → Among entries other → entry.key ≡ other.key → entry.sequence ≢ other.sequence) × AreDistinct entries

@@ -19,8 +19,8 @@ use Rattle.ikey.specs.Views.{Among}
 abbrev pub IsTableFile : Order → List ℕ → List Entry → Type 0
 IsTableFile order bytes entries = (kept : List InternalEntry) × IsTable order.cmp bytes kept × (entries ≡ map entry_of kept)
 
--- The bytes of a table: of the file that ends in `.ldb` or, where there is none, of the one that ends in `.sst`,
--- as older writers named it.
+-- The bytes of a table: of the file that ends in `.ldb` or, where there is none, of the one that
+-- ends in `.sst`, as older writers named it.
 abbrev pub table_at : Files → ℕ → Option (List ℕ)
 table_at files number = option_or (get files (name_of (Table number))) (get files (name_of (OldTable number)))
 
@@ -66,8 +66,8 @@ LieApart order a b = ((e f : Entry) → Among a.entries e → Among b.entries f 
 abbrev pub AreNewer : TableContent → TableContent → Type 0
 AreNewer a b = (e f : Entry) → Among a.entries e → Among b.entries f → e.key ≡ f.key → f.sequence < e.sequence
 
--- What holds of any two tables, the first of which comes before the second by level and number: a level
--- below 0 has no overlaps, a shallower one is newer, and in level 0 the greater number is.
+-- What holds of any two tables, the first of which comes before the second by level and number: a
+-- level below 0 has no overlaps, a shallower one is newer, and in level 0 the greater number is.
 abbrev pub AreTwoTables : Order → TableContent → TableContent → Type 0
 AreTwoTables order a b =
     (a.placed.level < b.placed.level → AreNewer a b)

@@ -1,4 +1,5 @@
--- Invariants and plumbing: what is below here need not be believed, since no caller builds on it but by its name.
+-- Invariants and plumbing: what is below here need not be believed, since no caller builds on it
+-- but by its name.
 pub mod Changes
 pub mod Checks
 pub mod Laws

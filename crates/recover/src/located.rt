@@ -1,5 +1,5 @@
-//! Where a log, or a MANIFEST, which has the form of one, is damaged. For the eye alone: it is looked for once more where the bytes were
-//! refused, by readers that need none of it.
+//! Where a log, or a MANIFEST, which has the form of one, is damaged. For the eye alone: it is
+//! looked for once more where the bytes were refused, by readers that need none of it.
 
 use batch::Batch;
 use coding::{Damage, crc32c, get_fixed32, mask};
@@ -34,8 +34,8 @@ struct Fault {
     wanted: u64,
 }
 
-/// The first fault in the fragments of a log, whose blocks begin where the bytes do. That fragments of one record stand in a wrong order
-/// is seen only where that is the damage that was found.
+/// Finds the first fault in the fragments of a log, whose blocks begin where the bytes do. A wrong
+/// order of the fragments of one record is looked for only if that is the damage that was found.
 pub fn fault_in(name: &str, bytes: &[u8], what: Damage) -> Trouble {
     let mut at = 0_usize;
     let mut inside = false;
@@ -133,7 +133,7 @@ fn continues(kind: u8) -> bool {
     kind == 3 || kind == 4
 }
 
-// Whether the record goes on behind it: FIRST and MIDDLE.
+// Whether the record goes on in a later fragment: FIRST and MIDDLE.
 fn is_continued(kind: u8) -> bool {
     kind == 2 || kind == 3
 }
@@ -160,7 +160,7 @@ fn record_at(bytes: &[u8], number: usize) -> u64 {
     at as u64
 }
 
-/// What is wrong with a log of batches, whose sequences are to be above this one.
+/// Says what is wrong with a log of batches, whose sequence numbers must be above this one.
 pub fn batch_trouble(alloc: Global, name: &str, bytes: &[u8], last: u64, what: Damage) -> Trouble {
     let Ok((records, _)) = read_log(alloc, bytes) else {
         return fault_in(name, bytes, what);
@@ -185,7 +185,7 @@ pub fn batch_trouble(alloc: Global, name: &str, bytes: &[u8], last: u64, what: D
     Trouble::none()
 }
 
-/// What is wrong with a MANIFEST whose bytes are refused as damaged.
+/// Says what is wrong with a MANIFEST whose bytes are damaged.
 pub fn manifest_trouble(alloc: Global, name: &str, bytes: &[u8], what: Damage) -> Trouble {
     let Ok((records, _)) = read_log(alloc, bytes) else {
         return fault_in(name, bytes, what);

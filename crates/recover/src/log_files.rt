@@ -19,12 +19,11 @@ const BLOCK: usize = 32_768;
 /// How many bytes are read at once: those of 32 blocks.
 const PIECE: u64 = 1_048_576;
 
-/// All bytes of a file that is to be a log, or `None` where it isn't there. Corrupt, as of this kind, comes only where it is
-/// none, and not wherever it is none: `log_in` judges all of it.
-///
-/// It is read by pieces, and the first block of each is judged before more is read. So rubbish that goes on costs what stands
-/// in front of it and two pieces, however long it is; and a log is judged twice for one block of 32. The room grows by
-/// doubling, and to no more than the store says are there; a file of one piece is not copied.
+/// Reads all bytes of a file that should be a log, or `None` if it isn't there. It is read by
+/// pieces, and the first block of each is judged before more is read. So a long file of rubbish
+/// costs what comes before the rubbish and two pieces. The room grows by doubling, and to no more
+/// than the store says are there; a file of one piece isn't copied. Corrupt, as of this kind: a
+/// block that was judged is none of a log. `log_in` judges all of it.
 pub fn read_log_file<S: Store>(
     alloc: Global,
     store: &mut S,
@@ -48,7 +47,7 @@ pub fn read_log_file<S: Store>(
         };
         let is_last = (piece.len() as u64) < PIECE;
         add_piece(&mut bytes, piece, size)?;
-        // Also where the file has become shorter since.
+        // Also if the file has become shorter since.
         if is_last {
             return Ok(Some(bytes));
         }
@@ -64,7 +63,8 @@ fn piece_count(size: u64) -> u64
     size.div_ceil(PIECE).max(1)
 }
 
-// The piece of this number of a file of so many bytes, whose first block is one of a log; or `None` where the file isn't there.
+// The piece of this number of a file of so many bytes; its first block must be one of a log.
+// `None`: the file isn't there.
 fn read_piece<S: Store>(
     alloc: Global,
     store: &mut S,
@@ -109,7 +109,8 @@ fn judge_piece(alloc: Global, kind: FileKind, piece: &[u8]) -> Result<(), DbErro
     }
 }
 
-// Adds a piece. The first one is taken as it is; then the room grows to twice as much, and to no more than the file has.
+// Adds a piece. The first one is taken as it is; then the room grows to twice as much, and to no
+// more than the file has.
 fn add_piece(bytes: &mut Vec<u8>, piece: Vec<u8>, size: u64) -> Result<(), AllocError>
     ensures { OnOk result (bytes.new.items ≡ bytes.old.items ++ piece.items) }
 {

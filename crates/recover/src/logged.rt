@@ -12,14 +12,14 @@ use ikey::{Entry, KeyOrder};
 use std::alloc::{AllocError, Global};
 use std::cmp::Ordering;
 
-/// The key of a logged entry, and its sequence.
+/// Holds the key of a logged entry, and its sequence number.
 #[derive(Clone, Copy)]
 pub struct Logged<'a> {
     pub key: &'a [u8],
     pub sequence: u64,
 }
 
-/// The logged entries by key, the older of one key first.
+/// Sorts the logged entries by key, the older of one key first.
 pub fn oldest_first<'a, K: KeyOrder>(
     alloc: Global,
     entries: &'a [Entry],
@@ -37,7 +37,7 @@ pub fn oldest_first<'a, K: KeyOrder>(
     Ok(logged)
 }
 
-// By key, then by sequence.
+// By key, then by sequence number.
 fn compare_logged<K: KeyOrder>(a: &Logged<'_>, b: &Logged<'_>) -> Ordering
     ensures { result ≡ age_cmp K.cmp a.now b.now }
 {
@@ -48,7 +48,8 @@ fn compare_logged<K: KeyOrder>(a: &Logged<'_>, b: &Logged<'_>) -> Ordering
     }
 }
 
-/// Whether an entry of this key and sequence is older than all that is logged of its key: than the first of them.
+/// Returns whether an entry of this key and sequence number is older than all that is logged of its
+/// key: than the first of them.
 pub fn is_older<K: KeyOrder>(logged: &[Logged<'_>], key: &[u8], sequence: u64) -> bool
     requires { AreByAge (order_of K.name K.cmp) logged.now }
     ensures { MatchBool result (IsOlderThanAll logged.now key.now sequence) (IsNotOlder logged.now key.now sequence) }

@@ -25,10 +25,10 @@ use logfile::{Tail, read_log};
 use std::alloc::Global;
 use store::{Store, Why};
 
-/// `CURRENT` has no more bytes than this: the name of a MANIFEST has 29 at most.
+/// Caps the bytes of `CURRENT`: the name of a MANIFEST has 29 at most.
 const MOST_IN_CURRENT: u64 = 64;
 
-/// What a MANIFEST says.
+/// Holds what a MANIFEST says.
 #[derive(Drop)]
 pub struct Manifest {
     /// What its edits leave.
@@ -84,7 +84,7 @@ pub fn read_manifest<K: KeyOrder, S: Store>(
     }
 }
 
-// The number of the MANIFEST that the bytes of `CURRENT` name, with a newline behind its name.
+// The number of the MANIFEST that the bytes of `CURRENT` name, with a newline after its name.
 fn manifest_number(bytes: &[u8]) -> Result<u64, DbError>
     ensures found { IfOk result (λ number. IsNumbered number × (bytes.now ≡ name_of (FileName.Manifest number) ++ 10 ∷ [])) }
     ensures refused { IfErr result (λ error. RefusesBytes error
@@ -122,7 +122,8 @@ fn decode_manifest<K: KeyOrder>(alloc: Global, bytes: &[u8]) -> Result<Manifest,
     }
 }
 
-/// The records of a log or a MANIFEST, which has the form of a log. What is torn at its end isn't in it.
+/// Returns the records of a log or a MANIFEST, which has the form of a log. What is torn at its end
+/// isn't in it.
 pub fn records_in(alloc: Global, file: FileKind, bytes: &[u8]) -> Result<Vec<Vec<u8>>, DbError>
     ensures found { IfOk result (λ records. (tail : TailValue) × IsLog bytes.now (map (λ r. r.items) records.items) tail) }
     ensures refused { IfErr result (λ error. RefusesBytes error
@@ -132,7 +133,7 @@ pub fn records_in(alloc: Global, file: FileKind, bytes: &[u8]) -> Result<Vec<Vec
     Ok(records)
 }
 
-/// The same, and how the log ends.
+/// Returns the same, and how the log ends.
 pub fn log_in(alloc: Global, file: FileKind, bytes: &[u8]) -> Result<(Vec<Vec<u8>>, Tail), DbError>
     ensures found { IfOk result (λ found. IsLog bytes.now (map (λ r. r.items) found.0.items) found.1) }
     ensures refused { IfErr result (λ error. RefusesBytes error

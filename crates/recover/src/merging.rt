@@ -1,4 +1,5 @@
-//! The tables of a directory, all in one reading: merged, their entries tell which table is older than it has to be.
+//! The tables of a directory, all in one reading: merged, their entries tell which table is older
+//! than it has to be.
 
 ghost use Rattle.std.specs.Prelude.{◌≡◌, ◌<◌, ◌+◌, List, true, length, Some, slice_get, IfOk, IfErr, OnOk, MatchBool};
 ghost use Rattle.ikey.specs.Orders.{order_of};
@@ -19,7 +20,8 @@ use ikey::{InternalKey, KeyOrder, unpack};
 use std::alloc::{AllocError, Global};
 use store::{Store, Why};
 
-/// What the entries of tables are held against: the tables' levels and keys, what is logged, and the recorded sequence.
+/// Holds what the entries of tables are held against: the tables' levels and keys, what is logged,
+/// and the recorded sequence number.
 #[derive(Clone, Copy)]
 pub struct Against<'a> {
     pub tables: &'a [PlacedTable],
@@ -46,7 +48,7 @@ struct Last {
     level: u32,
 }
 
-/// The tables in the middle of their reading.
+/// Holds the tables in the middle of their reading.
 #[derive(Drop)]
 pub struct Merge<K: KeyOrder> {
     // whether each of the tables was begun
@@ -68,7 +70,7 @@ impl<K: KeyOrder> Merge<K> {
     ghost use Rattle.recover.specs.internal.Parts.{IsUnchanged};
     ghost use Rattle.recover.specs.Reading.{IsStill};
 
-    /// None of the tables is read yet.
+    /// Begins a merge that has read none of the tables.
     pub fn new(alloc: Global, tables: &[PlacedTable]) -> Result<Self, AllocError>
         ensures fits { IfOk result (λ merge. FitsTables tables.now merge) }
         ensures fresh { IfOk result (λ merge. IsFresh tables.now merge) }
@@ -127,7 +129,7 @@ impl<K: KeyOrder> Merge<K> {
         Err(DbError::OutOfMemory)
     }
 
-    // Passes all entries that come in front of this key, or all.
+    // Passes all entries that come before this key, or all.
     fn run_until<S: Store>(
         &mut self,
         alloc: Global,
@@ -252,7 +254,7 @@ fn soonest<'a, K: KeyOrder>(
     best
 }
 
-// Whether the key comes in front of that of the best one, if there is one.
+// Whether the key comes before that of the best one, if there is one.
 fn is_sooner<K: KeyOrder>(key: InternalKey<'_>, best: Option<(usize, InternalKey<'_>)>) -> bool
     ensures { MatchBool result (IsSooner (order_of K.name K.cmp) key.entry best.entry)
         (IsSooner (order_of K.name K.cmp) key.entry best.entry → ⊥) }
@@ -274,7 +276,8 @@ fn least<K: KeyOrder>(lanes: &[Lane<K>]) -> Option<usize>
     best
 }
 
-// The lane at this index, where its key is less than that of the best of those in front of it.
+// The lane at this index, if its key is less than that of the best of the lanes before it; else
+// that best one.
 fn better<K: KeyOrder>(lanes: &[Lane<K>], index: usize, best: Option<usize>) -> Option<usize>
     requires { index < length lanes.now }
     ensures { IsLeastOf (order_of K.name K.cmp) lanes.now index best → IsLeastOf (order_of K.name K.cmp) lanes.now (index + 1) result }
@@ -295,14 +298,14 @@ fn better<K: KeyOrder>(lanes: &[Lane<K>], index: usize, best: Option<usize>) -> 
     best
 }
 
-// Whether the key at hand comes in front of the other.
+// Whether the key at hand comes before the other.
 fn is_head_before<K: KeyOrder>(a: &Head, b: &Head) -> bool
     ensures { MatchBool result (IsHeadBefore (order_of K.name K.cmp) a.now b.now) (IsHeadBefore (order_of K.name K.cmp) a.now b.now → ⊥) }
 {
     is_in_front::<K>(a.user.as_slice(), a.sequence, b.user.as_slice(), b.sequence)
 }
 
-// Whether the key at hand comes in front of the bound, if there is one.
+// Whether the key at hand comes before the bound, if there is one.
 fn is_within<K: KeyOrder>(head: &Head, bound: Option<InternalKey<'_>>) -> bool
     ensures { MatchBool result (IsWithin (order_of K.name K.cmp) head.now bound.entry)
         (IsWithin (order_of K.name K.cmp) head.now bound.entry → ⊥) }
@@ -315,7 +318,7 @@ fn is_within<K: KeyOrder>(head: &Head, bound: Option<InternalKey<'_>>) -> bool
     }
 }
 
-// Puts a lane in the place of one that has ended, or behind all.
+// Replaces a lane that has ended, or adds one after all.
 fn put_lane<K: KeyOrder>(lanes: &mut Vec<Lane<K>>, lane: Lane<K>) -> Result<(), AllocError>
     ensures { IfOk result (λ _. IsPut lanes.old.items lane lanes.new.items) }
 {
@@ -360,8 +363,8 @@ fn set_last<K: KeyOrder>(last: &mut Last, lane: &Lane<K>) -> Result<(), AllocErr
     Ok(())
 }
 
-// Whether the entry at which a lane stands is one that a consistent directory has there: it is recorded, older than what is
-// logged of its key, and of its key the next one that may come.
+// Whether the entry at which a lane stands may be there in a consistent directory. It must be
+// recorded, be older than what is logged of its key, and be the next one of its key that may come.
 fn judge<K: KeyOrder, S: Store>(
     store: &mut S,
     against: Against<'_>,
@@ -394,8 +397,9 @@ fn judge<K: KeyOrder, S: Store>(
     Ok(())
 }
 
-// Whether the entry at which a lane stands may come behind the last one, in front of which it doesn't stand: where it is of the same
-// key, it is older, and its table isn't one that has to be newer.
+// Whether the entry at which a lane stands may come after the last one; that it doesn't stand
+// before it is known. If it has the same key, it must be older, and its table must not be one that
+// has to be newer.
 fn may_come<K: KeyOrder>(last: &Last, lane: &Lane<K>) -> bool
     ensures { MatchBool result (MayComeNext last.now lane.now) (BreaksNext last.now lane.now) }
 {
@@ -411,7 +415,8 @@ fn may_come<K: KeyOrder>(last: &Last, lane: &Lane<K>) -> bool
     is_no_newer(last.level, last.place, lane.level, lane.place)
 }
 
-// Whether of two tables, each by its level and its place in the row, the second isn't one that has to be newer.
+// Whether of two tables, each by its level and its place in the row, the second isn't one that has
+// to be newer.
 fn is_no_newer(level: u32, place: usize, other_level: u32, other: usize) -> bool
     ensures { MatchBool result (IsNoNewer level place other_level other) (IsNoNewer level place other_level other → ⊥) }
 {

@@ -25,7 +25,8 @@ pub fn note_length<S: Store>(store: &mut S, name: &str, found: u64, wanted: u64)
     store.note(Trouble::of(Why::FileLength, name).found(found, wanted));
 }
 
-/// Notes what is wrong with the table of this number, by the name that we give it or the one that older writers gave.
+/// Notes what is wrong with the table of this number, by the name that we give it or the one that
+/// older writers gave.
 pub fn note_table<S: Store>(alloc: Global, store: &mut S, number: u64, is_older: bool, why: Why)
     ensures { S.facts store.new ≡ S.facts store.old }
 {
@@ -47,7 +48,7 @@ fn table_trouble(alloc: Global, number: u64, is_older: bool, why: Why) -> Troubl
     }
 }
 
-/// Notes that a table has a sequence above the recorded one.
+/// Notes that a table has a sequence number above the recorded one.
 pub fn note_sequence<S: Store>(store: &mut S, name: &str, found: u64, most: u64)
     ensures same { S.facts store.new ≡ S.facts store.old }
     ensures names { NamesFile name.now (S.told store.new) }
@@ -66,7 +67,7 @@ pub fn note_piece<S: Store>(store: &mut S, name: &str, offset: u64, piece: &[u8]
     store.note(trouble.moved(offset));
 }
 
-/// Notes what is wrong with a log of batches, whose sequences are to be above this one.
+/// Notes what is wrong with a log of batches, whose sequence numbers must be above this one.
 pub fn note_log<S: Store>(
     alloc: Global,
     store: &mut S,

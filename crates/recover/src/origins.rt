@@ -23,7 +23,7 @@ use ikey::{Entry, KeyOrder};
 use std::alloc::Global;
 use store::Store;
 
-/// Where entries of a directory are.
+/// Tells where entries of a directory are.
 #[derive(Clone, Copy, Debug, PartialEq, Eq)]
 pub enum Origin {
     /// The table of this level and number.
@@ -32,11 +32,11 @@ pub enum Origin {
     Log(u64),
 }
 
-/// The entries of one table or live log of a consistent directory: those of a table by key, the newer ones of a key
-/// first, those of a log as they were written. It reads `CURRENT`, the MANIFEST and that file, and doesn't take the lock.
-///
-/// Corrupt and Unsupported come as from `read_directory` for the MANIFEST, and as from `check` for the file; beside it
-/// Corrupt with `Missing` where the MANIFEST leaves no such table, or such a log isn't live.
+/// Reads the entries of one table or log in use of a consistent directory. Those of a table come by
+/// key, the newer ones of a key first; those of a log as they were written. It reads `CURRENT`, the
+/// MANIFEST and that file, and doesn't take the lock. Corrupt and Unsupported: as from
+/// `read_directory` for the MANIFEST, and as from `check` for the file. Corrupt with `Missing`: the
+/// MANIFEST leaves no such table, or such a log isn't in use.
 pub fn file_entries<K: KeyOrder, S: Store>(
     alloc: Global,
     store: &mut S,
@@ -121,7 +121,7 @@ fn placed_at(layout: &Layout, level: u32, number: u64) -> Option<&PlacedTable>
     None
 }
 
-// The entries of the log of this number, which is live in the layout.
+// The entries of the log of this number, which is in use in the layout.
 fn log_entries<S: Store>(
     alloc: Global,
     store: &mut S,

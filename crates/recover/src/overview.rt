@@ -1,4 +1,5 @@
-//! What a directory has, by its MANIFEST and its listing (LevelDB's db/db_impl.cc, DBImpl::GetProperty, without an open).
+//! What a directory has, by its MANIFEST and its listing (LevelDB's db/db_impl.cc,
+//! DBImpl::GetProperty, without an open).
 
 ghost use Rattle.std.specs.Prelude.{◌≡◌, ◌<◌, None, IfOk, IfErr, IfSome, IsTrue};
 ghost use Rattle.std.specs.List.{filter};
@@ -22,16 +23,16 @@ use ikey::KeyOrder;
 use std::alloc::Global;
 use store::{Store, Why};
 
-/// What is known of a directory without reading a table or a log.
+/// Holds what is known of a directory without reading a table or a log.
 #[derive(Debug, Drop)]
 pub struct Overview {
     /// What the edits of its MANIFEST leave.
     pub layout: Layout,
-    /// The live logs, by number.
+    /// The logs in use, by number.
     pub logs: Vec<LogLength>,
 }
 
-/// A live log, and how many bytes its file has.
+/// Names a log in use, and says how many bytes its file has.
 #[derive(Clone, Copy, Debug, PartialEq, Eq)]
 pub struct LogLength {
     /// The number in its name.
@@ -40,11 +41,11 @@ pub struct LogLength {
     pub length: u64,
 }
 
-/// Reads `CURRENT` and the MANIFEST that it names, and asks how long the live logs are; or `None` of a directory without a
-/// database. No table and no log is read, and none is asked for that isn't listed, so that damage in these isn't found.
-///
-/// Corrupt comes as from `read_directory`, where the MANIFEST can't be read, or where there is a table or a log and no `CURRENT`;
-/// Unsupported where the MANIFEST names another order of keys (`Comparator`) or a table number of 2^62 or more (`TableNumber`).
+/// Reads `CURRENT` and the MANIFEST that it names, and asks how long the logs in use are. `None`:
+/// there is no database. It reads no table and no log, and asks for none that isn't listed, so that
+/// damage in these isn't found. Corrupt: the MANIFEST can't be read, as from `read_directory`, or
+/// there is a table or a log but no `CURRENT`. Unsupported: the MANIFEST names another order of
+/// keys (`Comparator`) or a table number of 2^62 or more (`TableNumber`).
 pub fn overview_of<K: KeyOrder, S: Store>(
     alloc: Global,
     store: &mut S,
@@ -68,7 +69,7 @@ pub fn overview_of<K: KeyOrder, S: Store>(
     Ok(Some(Overview { layout, logs }))
 }
 
-// Those of these logs that are live in the layout, with their lengths.
+// Those of these logs that are in use in the layout, with their lengths.
 fn live_lengths<S: Store>(
     alloc: Global,
     store: &mut S,

@@ -31,7 +31,7 @@ use std::alloc::{AllocError, Global};
 use store::{Store, Why};
 use table::Table;
 
-/// A user key, and the sequence of one write to it.
+/// Holds a user key, and the sequence number of one write to it.
 #[derive(Drop)]
 pub struct Head {
     pub user: Vec<u8>,
@@ -41,7 +41,7 @@ pub struct Head {
 impl Head {
     ghost use Rattle.std.specs.Prelude.{◌≡◌, OnOk};
 
-    /// One that takes no memory yet.
+    /// Makes one that takes no memory yet.
     pub fn new(alloc: Global) -> Self {
         Head {
             user: Vec::new(alloc),
@@ -49,7 +49,7 @@ impl Head {
         }
     }
 
-    /// Puts this key and this sequence in its place.
+    /// Puts this key and this sequence number in its place.
     pub fn set(&mut self, user: &[u8], sequence: u64) -> Result<(), AllocError>
         ensures user { OnOk result (self.new.user.items ≡ user.now) }
         ensures sequence { OnOk result (self.new.sequence ≡ sequence) }
@@ -61,8 +61,8 @@ impl Head {
     }
 }
 
-/// A table that is read from its front. Each of its blocks is checked as it comes, with the index and the filter, and stands in memory
-/// alone; keys are read where they lie in it.
+/// Holds a table that is read from its front. Each of its blocks is checked as it comes, with the
+/// index and the filter. One block is in memory at a time, and keys are read where they lie in it.
 #[derive(Drop)]
 pub struct TableWalk<K: KeyOrder> {
     /// The name of its file.
@@ -117,7 +117,8 @@ impl<K: KeyOrder> TableWalk<K> {
         Ok(walk)
     }
 
-    /// Passes the pair at hand: whether it stands on another one. Behind the last one, whose key is that of the edit, it stands on none.
+    /// Passes the pair at hand, and returns whether it stands on another one. After the last one,
+    /// whose key is that of the edit, it stands on none.
     pub fn go_on<S: Store>(
         &mut self,
         alloc: Global,
@@ -140,7 +141,7 @@ impl<K: KeyOrder> TableWalk<K> {
         Ok(more)
     }
 
-    // Passes a pair behind which there is another one in its block.
+    // Passes a pair that isn't the last one in its block.
     fn step<S: Store>(&mut self, store: &mut S) -> Result<(), DbError>
         requires { HasMore self.old.block }
         ensures same { S.facts store.new ≡ S.facts store.old }
@@ -205,7 +206,8 @@ struct BlockRead<K: KeyOrder> {
     block: BlockCursor<Internal<K>>,
 }
 
-// A walk over the table of this file, which has read the first block that has pairs, and has no key at hand yet.
+// A walk over the table of this file, which has read the first block that has pairs, and has no key
+// at hand yet.
 fn open_first<K: KeyOrder, S: Store>(
     alloc: Global,
     store: &mut S,
@@ -270,7 +272,7 @@ fn next_block<K: KeyOrder, S: Store>(
     Ok(None)
 }
 
-// Whether a pair stands behind the one at hand.
+// Whether a pair stands after the one at hand.
 fn has_more<O: EntryOrder>(block: &BlockCursor<O>) -> bool
     ensures { MatchBool result (HasMore block.now) (HasNoMore block.now) }
 {
@@ -305,7 +307,7 @@ fn first_head<O: EntryOrder>(alloc: Global, block: &BlockCursor<O>) -> Result<He
     Ok(head)
 }
 
-// Takes the key of the pair at hand, where it comes behind the one that was taken before.
+// Takes the key of the pair at hand, if it comes after the one that was taken before.
 fn rise<K: KeyOrder>(head: &mut Head, block: &BlockCursor<Internal<K>>) -> Result<bool, AllocError>
     requires { (at : ℕ) × IsHere block.now at }
     ensures { IfOk result (λ rises. (at : ℕ) → IsHere block.now at → MatchBool rises

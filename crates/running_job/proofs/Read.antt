@@ -91,7 +91,7 @@ pub record View (H S : Type 0) : Type 0 where
 abbrev pub whole_of : {H S : Type 0} → View H S → H → Whole
 whole_of v h = record { seen = record { facts = v.facts (v.store_of h); tables = v.tables_of h; blocks = v.blocks_of h }; memory = v.memory_of h }
 
--- another store or other memory tables are put in alone
+-- another store or other memtables are put in alone
 pub record IsView {H S : Type 0} (v : View H S) : Type 0 where
   pub stored : (h : H) (s : S) → whole_of v (v.with_store h s) ≡ with_facts (whole_of v h) (v.facts s)
   pub remembered : (h : H) (w : Memories) → whole_of v (v.with_memory h w) ≡ record { seen = (whole_of v h).seen; memory = w }

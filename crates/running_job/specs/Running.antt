@@ -1,4 +1,5 @@
--- A compaction that is under way over what an open database reads (LevelDB's db/db_impl.cc, CompactionState).
+-- A compaction that is under way over what an open database reads (LevelDB's db/db_impl.cc,
+-- CompactionState).
 use Rattle.std.specs.Prelude.{◌≡◌, ◌≤◌, ◌-◌, ◌^◌, ℕ, Bool, List, [], ◌++◌, length, map, min}
 use Rattle.compact.specs.Deeper.{is_covered_below}
 use Rattle.compact.specs.Merging.{AreDisjoint, HasPassed, HaveOwnSequences, IsMerging}
@@ -41,9 +42,10 @@ deep_of cmp work = is_covered_below cmp work.job.plan.output_level work.version.
 abbrev pub shown : ℕ → ℕ
 shown count = min count (2 ^ 64 - 1)
 
--- The job of a plan for the tables of this directory: of its inputs' entries these came, and what is needed of them is
--- written; those are left, and its cursor stands on the first of them. No table that it writes is one that it reads, one of
--- which something is kept beside the store, or one of the directory.
+-- The job of a plan for the tables of this directory: of its inputs' entries these came, and what
+-- is needed of them is written; those are left, and its cursor stands on the first of them. No
+-- table that it writes is one that it reads, one of which something is kept beside the store, or
+-- one of the directory.
 pub record IsRunning {K : Type 0} {g : _} (order : Order) (whole : Whole) (next : ℕ) (d : Directory) (work : OpenJob K g) (came left : List InternalEntry) : Type 0 where
   pub inputs : List TableContent
   pub rest : List TableContent
@@ -66,8 +68,9 @@ pub record IsRunning {K : Type 0} {g : _} (order : Order) (whole : Whole) (next 
   -- the blocks that it reads are intact
   pub intact : IsMergeIntact order.cmp work.job.cursor whole
 
--- The job is under way over contents that its inputs may have, as far as their blocks tell: of these contents' entries these came, and what
--- is needed of them is written; those are left, and its cursor stands on the first of them.
+-- The job is under way over contents that its inputs may have, as far as their blocks tell: of
+-- these contents' entries these came, and what is needed of them is written; those are left, and
+-- its cursor stands on the first of them.
 pub record MayRun {K : Type 0} {g : _} (order : Order) (whole : Whole) (next : ℕ) (contents : List TableContent) (work : OpenJob K g) (came left : List InternalEntry) : Type 0 where
   pub entries : SameEntries (map entry_of (came ++ left)) (tabled contents)
   pub own_sequences : HaveOwnSequences (came ++ left)
@@ -85,8 +88,8 @@ pub record MayRun {K : Type 0} {g : _} (order : Order) (whole : Whole) (next : �
   pub limits : IsMergeLimited order.cmp work.job.cursor whole → IsOnePastLimit order.cmp work.job.plan.inputs.items whole
   pub torn : (cut : Cut) → IsMergeTorn order.cmp work.job.cursor whole cut → IsOneTornFile order.cmp work.job.plan.inputs.items whole cut
 
--- What a job has merged of contents that its inputs may have, where nothing is left: all their entries, of which those are written that
--- are needed.
+-- What a job has merged of contents that its inputs may have, where nothing is left: all their
+-- entries, of which those are written that are needed.
 abbrev pub HasMerged : {K : Type 0} {g : _} → Order → Facts → ℕ → OpenJob K g → Type 0
 HasMerged order facts next work = (whole : Whole) (contents : List TableContent) (came : List InternalEntry) → whole.seen.facts ≡ facts → MayRun order whole next contents work came []
     → SameEntries (map entry_of came) (tabled contents)

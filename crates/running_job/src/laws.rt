@@ -6,17 +6,18 @@ ghost use Rattle.running_job.specs.internal.Staying.{MayRunStays, RunningStays, 
 
 use ikey::KeyOrder;
 
-/// Law: a job goes on over what others have left of its tables, while they wrote, read, flushed or removed files.
+/// Proves that a job goes on over what others have left of its tables, while they wrote, read,
+/// flushed or removed files.
 pub fn running_stays<K: KeyOrder>()
     ensures { (work : OpenJob K K.KeyOrder) → RunningStays (order_of K.name K.cmp) work }
 {}
 
-/// Law: so it does while the directory has the same tables.
+/// Proves that so it does while the directory has the same tables.
 pub fn running_stays_beside<K: KeyOrder>()
     ensures { (work : OpenJob K K.KeyOrder) → RunningStaysBeside (order_of K.name K.cmp) work }
 {}
 
-/// Law: and so it does over whichever contents its inputs may have.
+/// Proves that and so it does over whichever contents its inputs may have.
 pub fn may_run_stays<K: KeyOrder>()
     ensures { (work : OpenJob K K.KeyOrder) → MayRunStays (order_of K.name K.cmp) work }
 {}

@@ -1,5 +1,6 @@
-//! A compaction that is under way over what an open database reads: it is begun, goes on by steps with a budget of entries,
-//! and lives on while others write, read and flush (LevelDB's db/db_impl.cc, DBImpl::BackgroundCompaction).
+//! A compaction that is under way over what an open database reads. It is begun, goes on by steps
+//! with a budget of entries, and lives on while others write, read and flush (LevelDB's
+//! db/db_impl.cc, DBImpl::BackgroundCompaction).
 #![tactic(auto)]
 
 mod laws;

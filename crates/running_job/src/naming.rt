@@ -9,7 +9,7 @@ use edits::{LEVELS, PlacedTable};
 use ikey::{KeyOrder, unpack};
 use versions::JobPlan;
 
-/// Whether an edit can name the tables of a plan and its pointer.
+/// Returns whether an edit can name the tables of a plan and its pointer.
 pub(crate) fn can_be_named<K: KeyOrder>(plan: &JobPlan) -> bool
     requires order { AreInOrder K.cmp plan.now.inputs.items }
     requires output { plan.now.output_level < 7 }

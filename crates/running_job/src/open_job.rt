@@ -1,4 +1,5 @@
-//! A compaction as one value that lives across calls (LevelDB's db/db_impl.cc, DBImpl::DoCompactionWork).
+//! A compaction as one value that lives across calls (LevelDB's db/db_impl.cc,
+//! DBImpl::DoCompactionWork).
 
 ghost use Rattle.std.specs.Prelude.{◌<◌, ◌≤◌, ◌^◌, ℕ, IfOk, MatchBool};
 ghost use Rattle.compact.specs.JobEdits.{IsPlanProper};
@@ -29,14 +30,14 @@ use table_access::sound_lasts;
 use version_laws::version_of_part;
 use versions::{JobPlan, Version, inputs_in_order};
 
-/// A job over the tables of a plan's inputs, with the version for which the plan was made: its tables below the output level are
-/// those whose keys a delete is kept for.
+/// Holds a job over the tables of a plan's inputs, with the version for which the plan was made. A
+/// delete is kept for the keys of that version's tables below the output level.
 #[derive(Drop)]
 pub struct OpenJob<K: KeyOrder> {
     job: Job<K, Merge<K, SourceCursor<K>>>,
     version: Rc<Version<K>>,
-    /// The number that was next when the job last drew one: those of its tables are below it. Behind a refusal it is above all
-    /// numbers, so that the job can't go on.
+    /// The number that was next when the job last drew one: those of its tables are below it. After
+    /// an error it is above all numbers, so that the job can't go on.
     next: u64,
     /// How many entries of its inputs came.
     merged: u64,
@@ -72,9 +73,10 @@ impl<K: KeyOrder> OpenJob<K> {
     ghost use Rattle.versions.specs.Levels.{HasNumber as HasTable};
     ghost use Rattle.versions.specs.Plans.{IsPlanOf};
 
-    /// Begins the job of a plan for a version's tables: its cursor stands on the first entry of the inputs, and no table is begun.
-    /// `snapshots` are the sequence numbers whose views are to be kept, rising: those of the live snapshots and the last one used.
-    /// Corrupt where no edit could name the plan's tables or hold its pointer.
+    /// Begins the job of a plan for a version's tables: its cursor stands on the first entry of the
+    /// inputs, and no table is begun. `snapshots` are the sequence numbers whose views must be
+    /// kept, rising: those of the live snapshots and the last one used. Corrupt: no edit could name
+    /// the plan's tables or hold its pointer.
     pub fn begin<S: Store>(
         alloc: Global,
         source: &mut Sources<K, S>,
@@ -138,9 +140,9 @@ impl<K: KeyOrder> OpenJob<K> {
         })
     }
 
-    /// Merges so many entries, or one for 0, or all that are left where those are fewer. Corrupt where the numbers are older than
-    /// those of the job. After an `Err` the job is to be given up: the files that it wrote are no part of the directory, and its
-    /// inputs are as they were.
+    /// Merges so many entries, or one for 0, or all that are left if those are fewer. Corrupt: the
+    /// numbers are older than those of the job. After an `Err` the job must be given up: the files
+    /// that it wrote are no part of the directory, and its inputs are as they were.
     pub fn step<S: Store>(
         &mut self,
         alloc: Global,
@@ -210,10 +212,11 @@ impl<K: KeyOrder> OpenJob<K> {
         Ok(progress)
     }
 
-    /// Ends the job once all entries of its inputs came, and puts its edit behind the MANIFEST, so that its outputs are in the
-    /// place of its inputs (see `directory_writes::install_job`). Corrupt where the numbers are older than those of the job or the version
-    /// isn't that of its inputs, and NumbersSpent where they are above 2^62. After a refusal the files that it wrote are no part
-    /// of the directory.
+    /// Ends the job once all entries of its inputs came, and appends its edit to the MANIFEST, so
+    /// that its outputs replace its inputs (see `directory_writes::install_job`). Corrupt: the
+    /// numbers are older than those of the job, or the version isn't that of its inputs.
+    /// NumbersSpent: they are above 2^62. After an error the files that it wrote are no part of the
+    /// directory.
     pub fn install<S: Store>(
         self,
         alloc: Global,
@@ -227,7 +230,8 @@ impl<K: KeyOrder> OpenJob<K> {
         ensures call { InstallTouches (S.facts store.old) (S.facts store.new) self.job.outputs (string_bytes manifest.now.name) }
         ensures fails { FailsAsWrite (S.facts store.old) (S.facts store.new) }
         ensures stood { OnOk result ((S.facts store.new).failures ≡ (S.facts store.old).failures) }
-        // In each directory that the files may come from it has merged exactly the entries of its inputs.
+        // In each directory that the files may come from it has merged exactly the entries of its
+        // inputs.
         ensures merged { OnOk result (HasMerged (order_of K.name K.cmp) (S.facts store.old) numbers.now.next self) }
         ensures version { IfOk result
             (λ installed. HasJobVersion K.cmp self.job.plan self.job.outputs version.now installed.version.value) }
@@ -272,21 +276,21 @@ impl<K: KeyOrder> OpenJob<K> {
         install_job(alloc, store, job, version, manifest, numbers, last_sequence)
     }
 
-    /// What it compacts.
+    /// Returns what it compacts.
     pub fn plan(&self) -> &JobPlan
         ensures { result.now ≡ self.now.job.plan }
     {
         self.job.plan()
     }
 
-    /// Whether the table of this number is one of the inputs.
+    /// Returns whether the table of this number is one of the inputs.
     pub fn reads(&self, number: u64) -> bool
         ensures { MatchBool result (HasTable number self.now.job.plan.inputs.items) (HasTable number self.now.job.plan.inputs.items → ⊥) }
     {
         has_number(&self.job.plan().inputs, number)
     }
 
-    /// Whether the table of this number is one that the job writes.
+    /// Returns whether the table of this number is one that the job writes.
     pub fn writes(&self, number: u64) -> bool
         ensures { MatchBool result (IsOwn self.now.job.outputs number) (IsOwn self.now.job.outputs number → ⊥) }
     {

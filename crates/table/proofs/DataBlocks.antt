@@ -134,7 +134,8 @@ entries_read cmp file frame found all entries is table =
 abbrev pub NoTable : (List ℕ → List ℕ → Ordering) → Frame → Type 0 → List ℕ → Type 0
 NoTable cmp frame then file = (entries : List InternalEntry) → IsFrame cmp file frame → IsTable cmp file entries → then
 
--- where one of its blocks is damaged there is no table, and of a table with one that isn't supported it is too long
+-- where one of its blocks is damaged there is no table, and of a table with one that isn't
+-- supported it is too long
 pub no_entries : (cmp : List ℕ → List ℕ → Ordering) (file : List ℕ) (frame : Frame) → IsOfOne (IsDamaged cmp file) frame.places → NoTable cmp frame ⊥ file
 no_entries cmp file frame one entries is table =
     let same = one_frame cmp file table.0 frame table.1 is in

@@ -6,7 +6,8 @@ use Rattle.ikey.specs.Entries.{Pair}
 use Rattle.std.proofs.lemmas.Bool.{ltb-true, ltb-false, cond_below}
 use Rattle.block.specs.Places.{Placed, within, index_behind}
 
--- the cursor is over these pairs, as many as are found are the first of them, and it stands on the next
+-- the cursor is over these pairs, as many as are found are the first of them, and it stands on the
+-- next
 pub record IsWalked (pairs : List Pair) (cursor : Placed) (found : List Pair) : Type 0 where
   pub pairs_are : cursor.pairs ≡ pairs
   pub inside : length found ≤ length pairs

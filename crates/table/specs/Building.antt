@@ -1,4 +1,5 @@
--- A table that is being written (LevelDB's table/table_builder.cc): what the builder keeps, and what stands in the file.
+-- A table that is being written (LevelDB's table/table_builder.cc): what the builder keeps, and
+-- what stands in the file.
 use Rattle.std.specs.Prelude.{◌≡◌, ◌<◌, ◌≤◌, ◌+◌, ◌^◌, ◌⊎◌, ℕ, Bool, List, [], ◌∷◌, ◌++◌, Option, Some, None, length, MatchBool}
 use Rattle.std.specs.List.{AllByRecursion, flat_map}
 use Rattle.std.specs.Option.{ForSome}
@@ -46,8 +47,8 @@ pub record MayFollow (cmp : List ℕ → List ℕ → Ordering) (b : Building) (
   pub parts_are : IsKey key parts
   pub rises : ForSome (last_added b) (λ (last : List ℕ). IsBelowInternal cmp last key)
 
--- how many bytes a data block and an index of these pairs take: a data block has a restart every 16 entries, an
--- index at each
+-- how many bytes a data block and an index of these pairs take: a data block has a restart every 16
+-- entries, an index at each
 abbrev pub data_length : List Pair → ℕ
 data_length pairs = written_length (record { interval = 16; pairs = pairs })
 
@@ -62,7 +63,8 @@ length_at_hand (pair ∷ pairs) = data_length (pair ∷ pairs)
 abbrev pub data_size : Building → ℕ
 data_size b = b.offset + length_at_hand b.block
 
--- With the pair added the block at hand is ended where it has block_bytes bytes or more, and else it goes on.
+-- With the pair added the block at hand is ended where it has block_bytes bytes or more, and else
+-- it goes on.
 abbrev pub EndsBlock : Building → Building → Pair → Type 0
 EndsBlock old new pair =
     ((data_length (old.block ++ pair ∷ []) < old.block_bytes) × (new.block ≡ old.block ++ pair ∷ []) × (new.index ≡ old.index))
@@ -70,7 +72,8 @@ EndsBlock old new pair =
 
 -- ---- what stands in the file
 
--- The blocks stand one behind another from this offset to that end, and none is too long to be read.
+-- The blocks stand one behind another from this offset to that end, and none is too long to be
+-- read.
 abbrev pub AreInLine : ℕ → List Place → ℕ → Type 0
 AreInLine offset [] end = offset ≡ end
 AreInLine offset (place ∷ places) end = (place.handle.offset ≡ offset) × (place.handle.size ≤ 2 ^ 30) × AreInLine (end_of place.handle) places end
@@ -81,8 +84,8 @@ AreEnded [] [] = Unit {0}
 AreEnded (place ∷ places) (pairs ∷ others) = (last_key pairs ≡ Some place.key) × AreEnded places others
 AreEnded places blocks = ⊥
 
--- With the user keys of these pairs added, which stand in the block at this offset, the hashes of the filters are the
--- new ones: one for each pair, in order.
+-- With the user keys of these pairs added, which stand in the block at this offset, the hashes of
+-- the filters are the new ones: one for each pair, in order.
 abbrev pub AddsHashes : List (List ℕ) → ℕ → List Pair → List (List ℕ) → Type 0
 AddsHashes old offset [] new = new ≡ old
 AddsHashes old offset (pair ∷ pairs) new = (key : Key) × IsKey pair.key key × AddsHashes (with_hash old (filter_index offset) (hash_of key.user)) offset pairs new

@@ -1,4 +1,5 @@
--- What holds a table together: footer, metaindex, filter block and index (LevelDB's doc/table_format.md).
+-- What holds a table together: footer, metaindex, filter block and index (LevelDB's
+-- doc/table_format.md).
 use Rattle.std.specs.Prelude.{◌≡◌, ◌≢◌, ◌<◌, ◌≤◌, ◌-◌, ◌^◌, ◌⊎◌, ℕ, List, [], ◌∷◌, ◌++◌, Option, Some, None, length, map, replicate, codes}
 use Rattle.std.specs.List.{AllByRecursion}
 use Rattle.std.specs.declared.cmp.Ordering.{Ordering}
@@ -112,7 +113,8 @@ AnyLong (handle ∷ handles) = IsLongBlock handle ⊎ AnyLong handles
 abbrev pub IsOversized : (cmp : List ℕ → List ℕ → Ordering) (file : List ℕ) (frame : Frame) → IsFrame cmp file frame → Type 0
 IsOversized cmp file frame is = AnyLong (is.metaindex ∷ is.index ∷ handles_of is.filter_handle)
 
--- a table that is open: the name of its file, how many bytes stand before the footer, and what was read of it
+-- a table that is open: the name of its file, how many bytes stand before the footer, and what was
+-- read of it
 pub record Opened : Type 0 where
   pub name : List ℕ
   pub before : ℕ
@@ -120,7 +122,8 @@ pub record Opened : Type 0 where
 
 -- ---- the filter's answers
 
--- what a table says of a user key in the data block at an offset, by the key's hash: without a filter block it admits all
+-- what a table says of a user key in the data block at an offset, by the key's hash: without a
+-- filter block it admits all
 abbrev pub TableAdmits : Option (List ℕ) → ℕ → ℕ → Type 0
 TableAdmits None offset h = Unit {0}
 TableAdmits (Some filter) offset h = BlockAdmits filter offset h

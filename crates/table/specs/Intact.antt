@@ -10,7 +10,8 @@ use Rattle.table.specs.Refusals.{IsUnsupported}
 use Rattle.table.specs.Table.{HasBlock, IsAtMost}
 use Rattle.table.specs.declared.handle.Place.{Place}
 
--- A pair of a block: its key is an internal key above the bound of the block in front, where there is one, and not above its own.
+-- A pair of a block: its key is an internal key above the bound of the block in front, where there
+-- is one, and not above its own.
 pub record IsWithin (cmp : List ℕ → List ℕ → Ordering) (floor : Option (List ℕ)) (most : List ℕ) (pair : Pair) : Type 0 where
   pub key : Key
   pub is : IsKey pair.key key
@@ -20,7 +21,8 @@ pub record IsWithin (cmp : List ℕ → List ℕ → Ordering) (floor : Option (
 abbrev pub AreWithin : (List ℕ → List ℕ → Ordering) → Option (List ℕ) → List ℕ → List Pair → Type 0
 AreWithin cmp floor most pairs = AllByRecursion (IsWithin cmp floor most) pairs
 
--- so are all data blocks, in the order of their places; in front of the first there is this bound, or none
+-- so are all data blocks, in the order of their places; in front of the first there is this bound,
+-- or none
 abbrev pub AreAllWithin : (List ℕ → List ℕ → Ordering) → Option (List ℕ) → List Place → List (List Pair) → Type 0
 AreAllWithin cmp floor [] [] = Unit {0}
 AreAllWithin cmp floor (place ∷ places) (pairs ∷ others) = AreWithin cmp floor place.key pairs × AreAllWithin cmp (Some place.key) places others
@@ -31,8 +33,8 @@ abbrev pub floor_of : List Place → ℕ → Option (List ℕ)
 floor_of places zero = None
 floor_of places (suc index) = option_map (λ (place : Place). place.key) (slice_get places index)
 
--- The block of this index is one: its checksum is right, its keys are internal keys that rise, above the bound of the place in front and
--- not above its own.
+-- The block of this index is one: its checksum is right, its keys are internal keys that rise,
+-- above the bound of the place in front and not above its own.
 pub record IsIntact (cmp : List ℕ → List ℕ → Ordering) (file : List ℕ) (places : List Place) (index : ℕ) (pairs : List Pair) : Type 0 where
   pub place : Place
   pub place_is : slice_get places index ≡ Some place

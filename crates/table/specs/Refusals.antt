@@ -21,7 +21,8 @@ pub record HasOtherType (file : List ℕ) (handle : Handle) : Type 0 where
   pub size : length block ≡ handle.size
   pub parts : take (handle.size + 5) (drop handle.offset file) ≡ block ++ trailer_of_type kind block
 
--- the file has all bytes of the block, and it is longer than those that are read, or of another type
+-- the file has all bytes of the block, and it is longer than those that are read, or of another
+-- type
 abbrev pub IsUnsupported : List ℕ → Handle → Type 0
 IsUnsupported file handle = ((end_of handle ≤ length file) × IsLongBlock handle) ⊎ HasOtherType file handle
 
@@ -36,7 +37,8 @@ abbrev pub IsOfOne : (Handle → Type 0) → List Place → Type 0
 IsOfOne is [] = ⊥
 IsOfOne is (place ∷ places) = is place.handle ⊎ IsOfOne is places
 
--- One of the blocks is damaged, or one of its pairs isn't right. `previous` is the bound of the block before the first.
+-- One of the blocks is damaged, or one of its pairs isn't right. `previous` is the bound of the
+-- block before the first.
 abbrev pub IsWrong : (List ℕ → List ℕ → Ordering) → List ℕ → Option (List ℕ) → Option (List ℕ) → List Place → Type 0
 IsWrong cmp file filter previous [] = ⊥
 IsWrong cmp file filter previous (place ∷ places) =
@@ -48,7 +50,8 @@ IsWrong cmp file filter previous (place ∷ places) =
 abbrev pub AreEmpty : (List ℕ → List ℕ → Ordering) → List ℕ → List Place → Type 0
 AreEmpty cmp file places = (blocks : List (List Pair)) × AreData cmp file places blocks × (flat_map (λ (pairs : List Pair). pairs) blocks ≡ [])
 
--- The block of this index is the first that can have the target: its key isn't below it, and that of the one before is.
+-- The block of this index is the first that can have the target: its key isn't below it, and that
+-- of the one before is.
 pub record IsFirstPlace (cmp : List ℕ → List ℕ → Ordering) (target : List ℕ) (places : List Place) (index : ℕ) : Type 0 where
   pub inside : index ≤ length places
   pub front : (i : ℕ) (d : Place) → index ≡ i + 1 → IsBelowInternal cmp (slice_index_or places i d).key target

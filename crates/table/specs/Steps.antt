@@ -14,7 +14,8 @@ use Rattle.table.specs.Building.{Building, data_length, index_length}
 use Rattle.table.specs.Reading.{HasFile}
 use Rattle.table.specs.Stored.{IsHandle, stored}
 
--- What holds of a builder at any time, also after a refusal. Few blocks, none of 2^32 bytes, keep the offset small.
+-- What holds of a builder at any time, also after a refusal. Few blocks, none of 2^32 bytes, keep
+-- the offset small.
 pub record IsKept (cmp : List ℕ → List ℕ → Ordering) (offset : ℕ) (index block : Added) : Type 0 where
   pub index_interval : index.interval ≡ 1
   pub block_interval : block.interval ≡ 16

@@ -1,4 +1,5 @@
--- Blocks within a file (LevelDB's doc/table_format.md): where they are, and what stands behind each.
+-- Blocks within a file (LevelDB's doc/table_format.md): where they are, and what stands behind
+-- each.
 use Rattle.std.specs.Prelude.{◌≡◌, ◌<◌, ◌≤◌, ◌+◌, ◌^◌, ◌⊎◌, ℕ, List, [], ◌∷◌, ◌++◌, length, take, drop}
 use Rattle.std.specs.List.{AllByRecursion}
 use Rattle.coding.specs.Checksum.{checksum, masked}

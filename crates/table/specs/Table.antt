@@ -62,8 +62,8 @@ ArePairs [] [] = Unit {0}
 ArePairs (pair ∷ pairs) (entry ∷ entries) = IsPair pair entry × ArePairs pairs entries
 ArePairs pairs entries = ⊥
 
--- Behind this frame the file has these entries: those of its data blocks joined, at least one, rising
--- strictly, each within the bounds of its block and admitted by its filter.
+-- Behind this frame the file has these entries: those of its data blocks joined, at least one,
+-- rising strictly, each within the bounds of its block and admitted by its filter.
 pub record IsFilled (cmp : List ℕ → List ℕ → Ordering) (file : List ℕ) (frame : Frame) (entries : List InternalEntry) : Type 0 where
   pub blocks : List (List Pair)
   pub data_is : AreData cmp file frame.places blocks

@@ -27,8 +27,9 @@ KeepsOthers old new name = (other : List ℕ) → other ≢ name → get new oth
 abbrev pub SyncsOnly : Synced → Synced → List ℕ → Type 0
 SyncsOnly old new name = (other : List ℕ) → other ≢ name → new other ≡ old other
 
--- A call that writes this file alone: once a store has returned something else than what was written, that is so for
--- good; the failures don't fall, each of them is a failed write, and the lock is left alone. A stop at any moment leaves the others too.
+-- A call that writes this file alone: once a store has returned something else than what was
+-- written, that is so for good; the failures don't fall, each of them is a failed write, and the
+-- lock is left alone. A stop at any moment leaves the others too.
 pub record Writes (old new : Facts) (name : List ℕ) : Type 0 where
   pub faithful : IsTrue new.faithful → IsTrue old.faithful
   pub failures : old.failures ≤ new.failures
@@ -41,8 +42,9 @@ pub record Writes (old new : Facts) (name : List ℕ) : Type 0 where
 
 -- ---- refusals
 
--- Why a table isn't written on: out of memory, while no call of the store failed, since one failed, or since a block of it would be longer than
--- those that are read, which is so only where this fact holds.
+-- Why a table isn't written on: out of memory, while no call of the store failed, since one failed,
+-- or since a block of it would be longer than those that are read, which is so only where this fact
+-- holds.
 abbrev pub WriteRefuses : DbError → Facts → Facts → Type 0 → Type 0
 WriteRefuses OutOfMemory old new too_long = new.failures ≡ old.failures
 WriteRefuses Io old new too_long = old.failures < new.failures
@@ -65,7 +67,8 @@ NeedsLongEnds b = NeedsLongIndex b b.block ⊎ ((bytes : List ℕ) × IsWritten 
 
 -- ---- what is left
 
--- What stands behind the data blocks, which end at this offset: filter block, metaindex, index and footer.
+-- What stands behind the data blocks, which end at this offset: filter block, metaindex, index and
+-- footer.
 pub record AreEnds (offset : ℕ) (filter index bytes : List ℕ) : Type 0 where
   pub metaindex : List ℕ
   pub value : List ℕ
@@ -78,8 +81,8 @@ pub record AreEnds (offset : ℕ) (filter index bytes : List ℕ) : Type 0 where
       (record { offset = offset + (length filter + 5) + (length metaindex + 5); size = length index })
   pub parts : bytes ≡ stored filter ++ (stored metaindex ++ (stored index ++ footer))
 
--- The file is the table of these pairs, with the filter of their user keys, a key once for each of its pairs. None of
--- its blocks is too long to be read.
+-- The file is the table of these pairs, with the filter of their user keys, a key once for each of
+-- its pairs. None of its blocks is too long to be read.
 pub record IsTableOf (cmp : List ℕ → List ℕ → Ordering) (file : List ℕ) (pairs : List Pair) : Type 0 where
   pub entries : List InternalEntry
   pub pairs_are : ArePairs pairs entries

@@ -10,7 +10,7 @@ use ikey::{EntryOrder, Front, Internal, KeyOrder, unpack};
 use std::alloc::{AllocError, Global};
 use std::cmp::Ordering;
 
-/// The fronts of the places' user keys, up to the first place whose key is no internal key.
+/// Returns the fronts of the places' user keys, up to the first place whose key is no internal key.
 pub fn fronts_of(alloc: Global, places: &[Place]) -> Result<Vec<Front>, AllocError>
     ensures { IfOk result (λ fronts. AreFronts places.now fronts.items) }
 {
@@ -24,8 +24,8 @@ pub fn fronts_of(alloc: Global, places: &[Place]) -> Result<Vec<Front>, AllocErr
     Ok(fronts)
 }
 
-/// The first place whose key isn't below the target, or the number of places: no entry of a block in front of it
-/// can be the one that is sought. The places' user keys have these fronts.
+/// Returns the first place whose key isn't below the target, or the number of places: no entry of
+/// an earlier block can be the one that is sought. The places' user keys have these fronts.
 pub fn first_place<K: KeyOrder>(places: &[Place], fronts: &[Front], target: &[u8]) -> usize
     requires { AreFronts places.now fronts.now }
     ensures inside { result ≤ length places.now }
@@ -49,7 +49,8 @@ pub fn first_place<K: KeyOrder>(places: &[Place], fronts: &[Front], target: &[u8
     low
 }
 
-// Whether the key of the place of this index is below the target, whose user key has the front `sought`.
+// Whether the key of the place of this index is below the target, whose user key has the front
+// `sought`.
 fn is_below<K: KeyOrder>(
     places: &[Place],
     fronts: &[Front],

@@ -31,9 +31,10 @@ const INDEX_INTERVAL: usize = 1;
 // A block's builder takes no more bytes than this.
 const MAX_BUILT: usize = 1 << 31;
 
-/// Writes a table (LevelDB's `table/table_builder.cc`), whose user keys are in the order K: each data block goes to the
-/// store when it is ended, and what is kept of it is its place in the index and four bytes of each of its user keys.
-/// Contracts see what is kept; `Builds` says which pairs were added, over a store.
+/// Writes a table (LevelDB's `table/table_builder.cc`), whose user keys are in the order K. Each
+/// data block goes to the store when it is ended. What is kept of it is its place in the index and
+/// four bytes of each of its user keys. Contracts see what is kept; `Builds` says which pairs were
+/// added, over a store.
 #[derive(Drop)]
 pub struct TableBuilder<K: KeyOrder> {
     name: String,
@@ -79,8 +80,8 @@ impl<K: KeyOrder> TableBuilder<K> {
     ghost use Rattle.table.specs.Steps.{IsPushed, IsEnded};
     ghost use Rattle.table.specs.Writing.{Writes, WriteRefuses, NeedsLongBlock, NeedsLongIndex, NeedsLongEnds, IsTableOf};
 
-    /// A table without entries, for a file of this name. A data block is ended by the entry with which it has
-    /// `block_bytes` bytes (LevelDB's include/leveldb/options.h, block_size).
+    /// Begins a table without entries, for a file of this name. A data block ends with the entry
+    /// that brings it to `block_bytes` bytes (LevelDB's include/leveldb/options.h, block_size).
     pub fn new(alloc: Global, name: &str, block_bytes: usize) -> Result<Self, AllocError>
         ensures name { IfOk result (λ b. b.name ≡ name.now) }
         ensures block_bytes { IfOk result (λ b. b.block_bytes ≡ block_bytes) }
@@ -100,7 +101,7 @@ impl<K: KeyOrder> TableBuilder<K> {
         })
     }
 
-    /// Whether no entry was added.
+    /// Returns whether no entry was added.
     pub fn is_empty(&self) -> bool
         ensures { MatchBool result (last_added self.now ≡ None) (IsSome (last_added self.now)) }
     {
@@ -110,7 +111,8 @@ impl<K: KeyOrder> TableBuilder<K> {
         self.index.is_empty()
     }
 
-    /// Whether the key is an internal key above the last one that was added, so that `add` may be called with it.
+    /// Returns whether the key is an internal key above the last one that was added, so that `add`
+    /// may be called with it.
     pub fn accepts(&self, key: &[u8]) -> bool
         ensures { MatchBool result (MayFollow K.cmp self.now key.now) (MayFollow K.cmp self.now key.now → ⊥) }
     {
@@ -123,9 +125,10 @@ impl<K: KeyOrder> TableBuilder<K> {
         self.block.is_above_last(key)
     }
 
-    /// Adds an entry, an internal key above the last one and its value, at the end. The first one creates the file,
-    /// and one that ends a data block appends it. Unsupported, where a block would have more than 2^30 bytes. After an
-    /// `Err` the builder is of no use, and its file is part of a table.
+    /// Adds an entry, an internal key above the last one and its value, at the end. The first one
+    /// creates the file, and one that ends a data block appends it. Unsupported: a block would have
+    /// more than 2^30 bytes. After an `Err` the builder can't be used, and its file is part of a
+    /// table.
     pub fn add<S: Store>(&mut self, store: &mut S, key: &[u8], value: &[u8]) -> Result<(), DbError>
         requires { MayFollow K.cmp self.old key.now }
         ensures name { self.new.name ≡ self.old.name }
@@ -147,8 +150,8 @@ impl<K: KeyOrder> TableBuilder<K> {
         Ok(())
     }
 
-    /// How many bytes the data blocks have, with type and checksum of each that was ended, and with the one at hand as
-    /// it would be ended now where it has an entry.
+    /// Returns how many bytes the data blocks have, with type and checksum of each that was ended.
+    /// The one at hand counts as it would be ended now, if it has an entry.
     pub fn size(&self) -> u64
         ensures { result ≡ data_size self.now }
     {
@@ -158,9 +161,9 @@ impl<K: KeyOrder> TableBuilder<K> {
         self.offset + self.block.size() as u64
     }
 
-    /// Ends the table, which has an entry: what wasn't appended yet is, and with it the file is the table of the
-    /// entries that were added. It isn't synced. The answer is how many bytes the file has. Unsupported, where a block
-    /// would have more than 2^30 bytes.
+    /// Ends the table, which has an entry, and returns how many bytes the file has. What wasn't
+    /// appended yet is, so that the file is the table of the entries that were added. It isn't
+    /// synced. Unsupported: a block would have more than 2^30 bytes.
     pub fn finish<S: Store>(self, alloc: Global, store: &mut S) -> Result<u64, DbError>
         requires some { IsSome (last_added self) }
         ensures writes { Writes (S.facts store.old) (S.facts store.new) self.name }
@@ -189,7 +192,7 @@ impl<K: KeyOrder> TableBuilder<K> {
         self.block.size() >= self.block_bytes
     }
 
-    // Creates the file, where that wasn't done.
+    // Creates the file, if that wasn't done.
     fn create_file<S: Store>(&mut self, store: &mut S) -> Result<(), DbError>
         ensures kept { self.new ≡ record self.old { created = self.new.created } }
         ensures writes { Writes (S.facts store.old) (S.facts store.new) self.old.name }
@@ -220,7 +223,7 @@ impl<K: KeyOrder> TableBuilder<K> {
         Ok(())
     }
 
-    // Ends the block at hand where it has an entry.
+    // Ends the block at hand if it has an entry.
     fn end_last_block<S: Store>(&mut self, store: &mut S) -> Result<(), DbError>
         ensures name { self.new.name ≡ self.old.name }
         ensures hashes { OnOk result (self.new.hashes ≡ self.old.hashes) }
@@ -238,7 +241,8 @@ impl<K: KeyOrder> TableBuilder<K> {
         Ok(())
     }
 
-    // Ends the block at hand, which has an entry: it is appended to the file, and its place is kept.
+    // Ends the block at hand, which has an entry: it is appended to the file, and its place is
+    // kept.
     fn end_block<S: Store>(&mut self, store: &mut S) -> Result<(), DbError>
         requires some { IsSome (last_key self.old.block) }
         ensures name { self.new.name ≡ self.old.name }

@@ -22,7 +22,8 @@ use ikey::{Internal, KeyOrder, unpack};
 use std::alloc::{AllocError, Global};
 use store::{Store, Why};
 
-/// The data block at a handle. Corrupt and Unsupported as `read_stored`; Corrupt too where the keys don't rise.
+/// Reads the data block at a handle. Corrupt and Unsupported as `read_stored`; Corrupt too if the
+/// keys don't rise.
 pub fn read_data<K: KeyOrder, S: Store>(
     alloc: Global,
     store: &mut S,
@@ -45,8 +46,9 @@ pub fn read_data<K: KeyOrder, S: Store>(
     }
 }
 
-/// The data block of a place, behind one of this bound. Corrupt and Unsupported as `read_data`; Corrupt too where a key is no internal
-/// key, isn't above that bound, or is above its own. It is read into `room` where it fits.
+/// Reads the data block of a place, after one of this bound, into `room` if it fits. Corrupt and
+/// Unsupported as `read_data`; Corrupt too if a key is no internal key, isn't above that bound, or
+/// is above its own.
 pub fn read_within<K: KeyOrder, S: Store>(
     alloc: Global,
     store: &mut S,
@@ -82,7 +84,7 @@ pub fn read_within<K: KeyOrder, S: Store>(
     Ok(block)
 }
 
-// Whether its first key is an internal key, where it has one.
+// Whether its first key is an internal key, if it has one.
 fn begins_with_key<K: KeyOrder>(block: &Block<Internal<K>>) -> bool
     ensures { MatchBool result (BeginsWithKey block.now.pairs) (BeginsWithKey block.now.pairs → ⊥) }
 {
@@ -95,7 +97,7 @@ fn begins_with_key<K: KeyOrder>(block: &Block<Internal<K>>) -> bool
     }
 }
 
-/// The pairs of the data blocks of these places, in order.
+/// Reads the pairs of the data blocks of these places, in order.
 pub fn read_all<K: KeyOrder, S: Store>(
     alloc: Global,
     store: &mut S,

@@ -1,4 +1,4 @@
-//! What stands behind the data blocks of a table (LevelDB's `table/table_builder.cc`, Finish).
+//! What follows the data blocks of a table (LevelDB's `table/table_builder.cc`, Finish).
 
 ghost use Rattle.std.specs.Prelude.{◌≡◌, ◌<◌, ◌≤◌, ◌+◌, ◌^◌, ◌++◌, ◌∷◌, [], ℕ, List, length, IfOk, OnOk};
 ghost use Rattle.block.specs.Block.{IsBlock};

@@ -9,7 +9,7 @@ use crate::handle::{Handle, handle_at, put_handle};
 use coding::Damage;
 use std::alloc::AllocError;
 
-/// How many bytes the footer has.
+/// Counts the bytes of a footer.
 pub const FOOTER_LENGTH: usize = 48;
 
 // How many bytes stand before the magic number.
@@ -17,7 +17,8 @@ const HANDLES_LENGTH: usize = 40;
 
 const MAGIC: [u8; 8] = [0x57, 0xFB, 0x80, 0x8B, 0x24, 0x75, 0x47, 0xDB];
 
-/// The magic number that these bytes of a footer have, in the order of the bytes, or 0 where they are too few.
+/// Returns the magic number that these bytes of a footer have, in the order of the bytes, or 0 if
+/// they are too few.
 pub fn magic_in(bytes: &[u8]) -> u64 {
     let Some(last) = bytes.get(HANDLES_LENGTH..) else {
         return 0;
@@ -28,12 +29,12 @@ pub fn magic_in(bytes: &[u8]) -> u64 {
     }
 }
 
-/// The magic number that belongs there.
+/// Returns the magic number that belongs there.
 pub fn magic_number() -> u64 {
     u64::from_be_bytes(MAGIC)
 }
 
-/// Where the footer says that the metaindex and the index are.
+/// Tells where the metaindex and the index are, as the footer says it.
 #[derive(Clone, Copy, Debug, PartialEq, Eq)]
 pub struct Footer {
     /// The block that names the filter block.
@@ -42,8 +43,9 @@ pub struct Footer {
     pub index: Handle,
 }
 
-/// The footer that the bytes are: `Length` where they are too few or too many, `Kind` at another magic number,
-/// `Number` where there is no handle, `Padding` where other bytes than zeros stand behind the handles.
+/// Reads the footer that the bytes are. `Length`: they are too few or too many. `Kind`: they have
+/// another magic number. `Number`: there is no handle. `Padding`: other bytes than zeros follow the
+/// handles.
 pub fn read_footer(bytes: &[u8]) -> Result<Footer, Damage>
     ensures found { IfOk result (λ footer. IsFooter bytes.now footer.metaindex footer.index) }
     ensures refused { IfErr result (λ _. (metaindex index : HandleValue) → IsFooter bytes.now metaindex index → ⊥) }
@@ -78,7 +80,7 @@ fn are_zeros(bytes: &[u8]) -> bool
     true
 }
 
-/// Writes the footer at the end, or a beginning of it where memory runs out.
+/// Writes the footer at the end, or a beginning of it if memory runs out.
 pub fn put_footer(out: &mut Vec<u8>, footer: Footer) -> Result<(), AllocError>
     ensures { OnOk result ((bytes : List ℕ) × IsFooter bytes footer.metaindex footer.index × (out.new.items ≡ out.old.items ++ bytes)) }
 {

@@ -12,7 +12,7 @@ use coding::DbError;
 use std::alloc::Global;
 use store::Store;
 
-/// A footer, and how many bytes stand before it.
+/// Holds a footer, and how many bytes stand before it.
 #[derive(Clone, Copy, Debug, PartialEq, Eq)]
 pub struct Ends {
     /// How many bytes stand before the footer.
@@ -20,7 +20,8 @@ pub struct Ends {
     pub footer: Footer,
 }
 
-/// Reads the footer, which is the last 48 bytes. Corrupt, where the file is shorter or they are no footer.
+/// Reads the footer, which is the last 48 bytes. Corrupt: the file is shorter or they are no
+/// footer.
 pub fn read_ends<S: Store>(alloc: Global, store: &mut S, name: &str) -> Result<Ends, DbError>
     ensures reads { Reads (S.facts store.old) (S.facts store.new) }
     ensures found { IfOk result (λ ends. Finds (S.facts store.old) (S.facts store.new) name.now (λ file. HasFooter file ends.before ends.footer.metaindex ends.footer.index)) }

@@ -8,16 +8,17 @@ ghost use Rattle.table.specs.declared.handle.Handle.{Handle as HandleValue};
 use coding::{Bytes, get_varint64, put_varint64};
 use std::alloc::AllocError;
 
-/// Where a block is in its file, without the type and the checksum behind it.
+/// Tells where a block is in its file, without its trailer.
 #[derive(Clone, Copy, Debug, PartialEq, Eq)]
 pub struct Handle {
     /// Where the block begins, in bytes from the start of the file.
     pub offset: u64,
-    /// How many bytes the block has, without the five behind it.
+    /// How many bytes the block has, without the five of its trailer.
     pub size: u64,
 }
 
-/// What the index says of a data block: a key that no key of the block is above, and where the block is.
+/// Holds what the index says of a data block: a key that no key of the block is above, and where
+/// the block is.
 #[derive(Debug, Drop)]
 pub struct Place {
     /// An internal key, at least the block's last one, and below the next block's first one.
@@ -26,7 +27,7 @@ pub struct Place {
     pub handle: Handle,
 }
 
-/// The handle at the front, and the bytes behind it.
+/// Reads the handle at the front, and returns it with the bytes after it.
 pub fn handle_at(bytes: &[u8]) -> Option<(Handle, &[u8])>
     ensures found { IfSome result (λ found. Begins IsHandle bytes.now found.0 found.1.now) }
     ensures none { IfNone result (BeginsNone IsHandle bytes.now) }
@@ -36,7 +37,7 @@ pub fn handle_at(bytes: &[u8]) -> Option<(Handle, &[u8])>
     Some((Handle { offset, size }, behind))
 }
 
-/// The handle that all of the bytes are.
+/// Returns the handle that all of the bytes are.
 pub fn whole_handle(bytes: &[u8]) -> Option<Handle>
     ensures { MatchOption result ((handle : HandleValue) → IsHandle bytes.now handle → ⊥) (λ handle. IsHandle bytes.now handle) }
 {
@@ -46,7 +47,7 @@ pub fn whole_handle(bytes: &[u8]) -> Option<Handle>
     }
 }
 
-// The number of at most 64 bits at the front, and the bytes behind it.
+// The number of at most 64 bits at the front, and the bytes after it.
 fn number_at(bytes: &[u8]) -> Option<(u64, &[u8])>
     ensures found { IfSome result (λ found. Begins IsNumber bytes.now found.0 found.1.now) }
     ensures none { IfNone result (BeginsNone IsNumber bytes.now) }
@@ -56,7 +57,7 @@ fn number_at(bytes: &[u8]) -> Option<(u64, &[u8])>
     Some((number, behind))
 }
 
-/// Writes a handle at the end, or a beginning of it where memory runs out.
+/// Writes a handle at the end, or a beginning of it if memory runs out.
 pub fn put_handle(out: &mut Vec<u8>, handle: Handle) -> Result<(), AllocError>
     ensures { OnOk result (Appends IsHandle out.old.items out.new.items handle) }
 {

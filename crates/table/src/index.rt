@@ -1,4 +1,5 @@
-//! The index, which bounds and finds the data blocks (LevelDB's `doc/table_format.md`, "index block").
+//! The index, which bounds and finds the data blocks (LevelDB's `doc/table_format.md`, "index
+//! block").
 
 ghost use Rattle.std.specs.Prelude.{◌≡◌, ◌<◌, ◌^◌, ℕ, List, length, IfOk, IfErr, OnOk};
 ghost use Rattle.coding.specs.Errors.{RefusesOnly};
@@ -52,7 +53,7 @@ fn open_places<K: KeyOrder>(alloc: Global, bytes: Vec<u8>) -> Result<Vec<Place>,
     }
 }
 
-/// Reads the index. Corrupt and Unsupported as `read_stored`; Corrupt too where the block is no index.
+/// Reads the index. Corrupt and Unsupported as `read_stored`; Corrupt too if the block is no index.
 pub fn read_places<K: KeyOrder, S: Store>(
     alloc: Global,
     store: &mut S,

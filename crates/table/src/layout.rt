@@ -14,7 +14,7 @@ use crate::stored::TRAILER_LENGTH;
 use coding::{Damage, ReadError};
 use std::alloc::{AllocError, Global};
 
-/// The handles of a table's blocks.
+/// Lists the handles of a table's blocks.
 pub fn all_handles(
     alloc: Global,
     footer: Footer,
@@ -50,8 +50,8 @@ pub fn push_places(handles: &mut Vec<Handle>, places: &[Place]) -> Result<(), Al
     Ok(())
 }
 
-/// Whether the blocks at these handles, with what stands behind each, end before a place in the file, and none of
-/// them lies in another. The handles are put in the order of their offsets.
+/// Returns whether the blocks at these handles, with the trailer of each, end before a place in the
+/// file, and none of them lies in another. The handles are put in the order of their offsets.
 pub fn are_separate(end: u64, handles: &mut [Handle]) -> bool
     ensures { MatchBool result (AreSeparate end handles.old) (AreSeparate end handles.old → ⊥) }
 {
@@ -66,7 +66,8 @@ fn sort_by_offset(handles: &mut [Handle])
     handles.sort_unstable_by_key(|handle| handle.offset);
 }
 
-// The same of handles in the order of their offsets: each begins where the one before has ended, or behind that.
+// The same of handles in the order of their offsets: each begins where the one before has ended, or
+// after that.
 fn sorted_are_separate(end: u64, handles: &[Handle]) -> bool
     requires { IsNonDecreasingBy (λ (handle : HandleValue). handle.offset) handles.now }
     ensures { MatchBool result (AreSeparate end handles.now) (AreSeparate end handles.now → ⊥) }

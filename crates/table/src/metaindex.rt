@@ -24,7 +24,7 @@ use ikey::Plain;
 use std::alloc::Global;
 use store::Store;
 
-/// The name under which the metaindex has the filter block.
+/// Names the filter block in the metaindex.
 pub const FILTER_NAME: &str = "filter.leveldb.BuiltinBloomFilter2";
 
 // The handle of the filter block, if the metaindex names one. Other names count for nothing.
@@ -102,8 +102,8 @@ fn read_filter_block<S: Store>(
     }
 }
 
-/// Reads the metaindex, and the filter block that it names, if it names one. Corrupt and Unsupported as
-/// `read_stored`; Corrupt too where a block isn't what it should be.
+/// Reads the metaindex, and the filter block that it names, if it names one. Corrupt and
+/// Unsupported as `read_stored`; Corrupt too if a block isn't what it should be.
 pub fn read_filter<S: Store>(
     alloc: Global,
     store: &mut S,

@@ -1,5 +1,5 @@
-//! Why a table is refused, noted beside the refusal, with which nothing of its files changes. What is found is looked for once
-//! more where it is refused, and nowhere else.
+//! Why a table is refused, noted beside the refusal, with which nothing of its files changes. What
+//! is found is looked for once more where it is refused, and nowhere else.
 
 ghost use Rattle.std.specs.Prelude.{◌≡◌, Some, None};
 ghost use Rattle.coding.specs.declared.error.DbError.TheVariants.{Corrupt};
@@ -16,7 +16,8 @@ use block::MAX_BLOCK_LENGTH;
 use coding::{Damage, DbError, FileKind, ReadError};
 use store::{Store, StoreError, Trouble, Why};
 
-/// The refusal that stands for one of the store, where a missing file is noted. (What else the store refuses it notes itself.)
+/// Returns the error that stands for one of the store, and notes a missing file. (What else the
+/// store refuses it notes itself.)
 pub fn refuse_call<S: Store>(store: &mut S, name: &str, e: StoreError) -> DbError
     ensures same { S.facts store.new ≡ S.facts store.old }
     ensures value { result ≡ refusal_of e }
@@ -29,7 +30,7 @@ pub fn refuse_call<S: Store>(store: &mut S, name: &str, e: StoreError) -> DbErro
     refusal(e)
 }
 
-/// The refusal of a file that ends before all of these bytes were read.
+/// Notes that a file ends before all of these bytes were read, and returns the error.
 pub fn refuse_cut<S: Store>(
     store: &mut S,
     name: &str,
@@ -47,7 +48,7 @@ pub fn refuse_cut<S: Store>(
     DbError::Corrupt(FileKind::Table, Damage::Length)
 }
 
-/// The refusal of a block that isn't stored in a file of this length, or is too long.
+/// Notes a block that isn't stored in a file of this length, or is too long, and returns the error.
 pub fn refuse_length<S: Store>(
     store: &mut S,
     name: &str,
@@ -81,7 +82,8 @@ fn length_trouble(handle: Handle, len: u64, e: ReadError, name: &str) -> Trouble
     }
 }
 
-/// The refusal of the bytes that are stored at a place: a block, its type and a checksum.
+/// Notes what is wrong with the bytes that are stored at a place, a block, its type and a checksum,
+/// and returns the error.
 pub fn refuse_stored<S: Store>(
     store: &mut S,
     name: &str,
@@ -115,7 +117,7 @@ fn stored_trouble(bytes: &[u8], e: ReadError, name: &str) -> Trouble
     }
 }
 
-/// The refusal of the block at a place, whose checksum is right.
+/// Notes what is wrong with the block at a place, whose checksum is right, and returns the error.
 pub fn refuse_block<S: Store>(store: &mut S, name: &str, at: u64, e: ReadError) -> DbError
     ensures same { S.facts store.new ≡ S.facts store.old }
     ensures value { result ≡ table_refusal e }
@@ -137,7 +139,8 @@ fn why_of(e: ReadError) -> Why {
     }
 }
 
-/// The refusal of the filter block at a place, whose checksum is right.
+/// Notes what is wrong with the filter block at a place, whose checksum is right, and returns the
+/// error.
 pub fn refuse_filter<S: Store>(store: &mut S, name: &str, at: u64, e: ReadError) -> DbError
     ensures same { S.facts store.new ≡ S.facts store.old }
     ensures value { result ≡ table_refusal e }
@@ -148,7 +151,7 @@ pub fn refuse_filter<S: Store>(store: &mut S, name: &str, at: u64, e: ReadError)
     table_refusal(e)
 }
 
-/// The refusal of a file that is shorter than a footer.
+/// Notes that a file is shorter than a footer, and returns the error.
 pub fn refuse_short<S: Store>(store: &mut S, name: &str, len: u64) -> DbError
     ensures same { S.facts store.new ≡ S.facts store.old }
     ensures value { result ≡ Corrupt file_kind.Table Damage.Length }
@@ -158,7 +161,7 @@ pub fn refuse_short<S: Store>(store: &mut S, name: &str, len: u64) -> DbError
     DbError::Corrupt(FileKind::Table, Damage::Length)
 }
 
-/// The refusal of bytes at a place that are no footer.
+/// Notes why bytes at a place are no footer, and returns the error.
 pub fn refuse_footer<S: Store>(
     store: &mut S,
     name: &str,
@@ -185,7 +188,8 @@ fn footer_trouble(bytes: &[u8], what: Damage, name: &str) -> Trouble
     }
 }
 
-/// Notes what is wrong with the parts of a table: with its blocks together, or with the keys of the block at a place.
+/// Notes what is wrong with the parts of a table: with its blocks together, or with the keys of the
+/// block at a place.
 pub fn note_parts<S: Store>(store: &mut S, name: &str, at: Option<u64>, why: Why)
     ensures same { S.facts store.new ≡ S.facts store.old }
     ensures names { NamesFile name.now (S.told store.new) }

@@ -9,16 +9,17 @@ use ikey::EntryOrder;
 use std::alloc::{AllocError, Global};
 use std::rc::Rc;
 
-/// A key and a value, as a block has them.
+/// Holds a key and a value, as a block has them.
 #[derive(Debug, Drop)]
 pub struct KeyValue {
-    /// In a data block the bytes of an internal key: the user key, and eight bytes with sequence and kind.
+    /// In a data block the bytes of an internal key: the user key, and eight bytes with sequence
+    /// number and kind.
     pub key: Bytes,
     /// The value of a put, and nothing for a delete.
     pub value: Bytes,
 }
 
-/// The pairs of a block, in order.
+/// Returns the pairs of a block, in order.
 pub fn pairs_in<O: EntryOrder>(alloc: Global, block: Block<O>) -> Result<Vec<KeyValue>, AllocError>
     ensures { IfOk result (λ found. pairs_of found.items ≡ block.pairs) }
 {

@@ -14,7 +14,7 @@ use coding::{Damage, DbError, Feature, FileKind, ReadError};
 use std::alloc::Global;
 use store::{Store, StoreError};
 
-/// The refusal that stands for one of the store, by a call that reads a table.
+/// Returns the error that a call that reads a table gives for one of the store.
 pub fn refusal(e: StoreError) -> DbError
     ensures { result ≡ refusal_of e }
 {
@@ -25,7 +25,7 @@ pub fn refusal(e: StoreError) -> DbError
     }
 }
 
-/// The refusal of bytes of a table.
+/// Returns the error for bytes of a table.
 pub fn table_refusal(e: ReadError) -> DbError
     ensures { result ≡ table_refusal e }
 {
@@ -36,7 +36,7 @@ pub fn table_refusal(e: ReadError) -> DbError
     }
 }
 
-/// How many bytes the file has. A missing file is Corrupt.
+/// Returns how many bytes the file has. Corrupt: it isn't there.
 pub fn file_length<S: Store>(store: &mut S, name: &str) -> Result<u64, DbError>
     ensures reads { Reads (S.facts store.old) (S.facts store.new) }
     ensures found { IfOk result (λ len. Finds (S.facts store.old) (S.facts store.new) name.now (λ file. len ≡ length file)) }
@@ -50,7 +50,8 @@ pub fn file_length<S: Store>(store: &mut S, name: &str) -> Result<u64, DbError>
     }
 }
 
-/// So many bytes of the file from an offset on, by `Store::read_into`. Fewer are Corrupt.
+/// Reads so many bytes of the file from an offset on, by `Store::read_into`. Corrupt: there are
+/// fewer.
 pub fn read_part<S: Store>(
     alloc: Global,
     store: &mut S,
@@ -77,10 +78,10 @@ pub fn read_part<S: Store>(
     }
 }
 
-/// The block that the file has at a handle: its checksum is compared, and then its type. No memory is taken before
-/// the file is known to have that many bytes: where the block doesn't end within the `known` bytes, which are there as
-/// far as the caller knows, the store is asked. A block of more than 2^30 bytes is Unsupported. It is read into `room`
-/// where it fits.
+/// Reads the block that the file has at a handle, into `room` if it fits, and compares its checksum
+/// and then its type. No memory is taken before the file is known to have that many bytes. The
+/// caller knows of `known` bytes; if the block doesn't end within these, the store is asked.
+/// Unsupported: it has more than 2^30 bytes.
 pub fn read_stored<S: Store>(
     alloc: Global,
     store: &mut S,
@@ -108,7 +109,7 @@ pub fn read_stored<S: Store>(
     Ok(bytes)
 }
 
-// How many bytes the block at a handle takes in the file, with what stands behind it.
+// How many bytes the block at a handle takes in the file, with its trailer.
 fn known_length<S: Store>(
     store: &mut S,
     name: &str,
@@ -133,7 +134,7 @@ fn known_length<S: Store>(
     }
 }
 
-// How many bytes the block at a handle takes in a file of this length, with what stands behind it.
+// How many bytes the block at a handle takes in a file of this length, with its trailer.
 fn stored_length(handle: Handle, len: u64) -> Result<usize, ReadError>
     ensures count { IfOk result (λ count. count ≡ handle.size + 5) }
     ensures inside { OnOk result (end_of handle ≤ len) }

@@ -20,7 +20,7 @@ use std::alloc::{AllocError, Global};
 use std::rc::Rc;
 use store::Store;
 
-/// The first entry of these places' blocks that isn't below the target.
+/// Returns the first entry of these places' blocks that isn't below the target.
 pub fn seek_from<K: KeyOrder, S: Store>(
     alloc: Global,
     store: &mut S,

@@ -1,4 +1,5 @@
-//! Blocks as a file has them, with a type and a checksum behind each (LevelDB's `doc/table_format.md`).
+//! Blocks as a file has them, with a type and a checksum after each (LevelDB's
+//! `doc/table_format.md`).
 
 ghost use Rattle.std.specs.Prelude.{◌≡◌, ◌≢◌, ◌++◌, ℕ, List, length, IfOk, IfErr, OnOk};
 ghost use Rattle.block.specs.Block.{Refuses};
@@ -7,14 +8,14 @@ ghost use Rattle.table.specs.Stored.{trailer_of, trailer_of_type, stored};
 use coding::{Damage, Feature, ReadError, crc32c, get_fixed32, mask, put_fixed32};
 use std::alloc::AllocError;
 
-/// How many bytes stand behind a block: its type, and the checksum of block and type.
+/// Counts the bytes of a block's trailer: its type, and the checksum of block and type.
 pub const TRAILER_LENGTH: usize = 5;
 
 // The type of a block that isn't compressed.
 const UNCOMPRESSED: u8 = 0;
 
-/// The block that the bytes are together with what stands behind it. The checksum is compared first, and then the
-/// type, so that a type is only believed where the bytes are undamaged.
+/// Returns the block that the bytes are together with its trailer. The checksum is compared first,
+/// and then the type, so that a type is believed only if the bytes are undamaged.
 pub fn stored_block(bytes: &[u8]) -> Result<&[u8], ReadError>
     ensures found { IfOk result (λ block. bytes.now ≡ block.now ++ trailer_of block.now) }
     ensures refused { IfErr result (λ e. Refuses e ((kind : ℕ) (block : List ℕ) → bytes.now ≡ block ++ trailer_of_type kind block → ⊥)
@@ -39,7 +40,7 @@ pub fn stored_block(bytes: &[u8]) -> Result<&[u8], ReadError>
     Ok(block)
 }
 
-/// What stands behind a block, and what belongs there.
+/// Holds the trailer that a block has, and the one that belongs there.
 #[derive(Clone, Copy, Debug)]
 pub struct Sums {
     /// Its type.
@@ -50,7 +51,8 @@ pub struct Sums {
     pub found: u32,
 }
 
-/// The type and the checksums of the block that the bytes are together with what stands behind it, or `None` where they are too few.
+/// Returns the type and the checksums of the block that the bytes are together with its trailer, or
+/// `None` if they are too few.
 pub fn sums_of(bytes: &[u8]) -> Option<Sums> {
     let length = bytes.len().checked_sub(TRAILER_LENGTH)?;
     let (block, behind) = bytes.split_at(length);
@@ -65,7 +67,7 @@ pub fn sums_of(bytes: &[u8]) -> Option<Sums> {
     })
 }
 
-/// Writes a block at the end, and its type and checksum behind it, or a beginning of it where memory runs out.
+/// Appends a block, and its type and checksum after it, or a beginning of that if memory runs out.
 pub fn put_stored(out: &mut Vec<u8>, block: &[u8]) -> Result<(), AllocError>
     ensures { OnOk result (out.new.items ≡ out.old.items ++ stored block.now) }
 {
@@ -74,7 +76,7 @@ pub fn put_stored(out: &mut Vec<u8>, block: &[u8]) -> Result<(), AllocError>
     put_fixed32(out, mask(crc32c(block, &[UNCOMPRESSED])))
 }
 
-/// Writes type and checksum behind a block, or a beginning of it where memory runs out.
+/// Appends its type and checksum to a block, or a beginning of that if memory runs out.
 pub fn put_trailer(block: &mut Vec<u8>) -> Result<(), AllocError>
     ensures { OnOk result (block.new.items ≡ stored block.old.items) }
 {

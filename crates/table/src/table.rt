@@ -24,8 +24,9 @@ use std::marker::{Model, PhantomData};
 use std::rc::Rc;
 use store::{Store, Why};
 
-/// A table that is open (LevelDB's `doc/table_format.md`), whose user keys are in the order K. Contracts see the name
-/// of its file, and what was read of it: its index, and its filter block if it has one.
+/// Holds a table that is open (LevelDB's `doc/table_format.md`), whose user keys are in the order
+/// K. Contracts see the name of its file, and what was read of it: its index, and its filter block
+/// if it has one.
 #[derive(Drop)]
 pub struct Table<K: KeyOrder> {
     name: String,
@@ -65,8 +66,8 @@ impl<K: KeyOrder> Table<K> {
     ghost use Rattle.table.specs.Seeking.{IsFirstFrom, pairs_found, entry_list};
     ghost use Rattle.table.specs.Views.{pairs_of};
 
-    /// Reads footer, metaindex, filter block and index of a file. Corrupt, where they are no frame of a table;
-    /// Unsupported, where one of these blocks has a type other than 0 or more than 2^30 bytes.
+    /// Reads footer, metaindex, filter block and index of a file. Corrupt: they are no frame of a
+    /// table. Unsupported: one of these blocks has a type other than 0 or more than 2^30 bytes.
     pub fn open<S: Store>(alloc: Global, store: &mut S, name: &str) -> Result<Self, DbError>
         ensures reads { Reads (S.facts store.old) (S.facts store.new) }
         ensures name { IfOk result (λ table. table.name ≡ name.now) }
@@ -76,7 +77,7 @@ impl<K: KeyOrder> Table<K> {
         ensures stood { OnOk result ((S.facts store.new).failures ≡ (S.facts store.old).failures) }
         ensures noted { IfErr result (λ e. IsNoted name.now e (S.told store.new)) }
         ensures told { IfErr result (λ e. Refuses e (S.facts store.old) (S.facts store.new) name.now (IsFrameDamaged K.cmp) IsFrameUnsupported) }
-        // A frame is refused only where one of its blocks is too long.
+        // A frame is refused only if one of its blocks is too long.
         ensures refused { IfErr result (λ e. Refuses e (S.facts store.old) (S.facts store.new) name.now
             (λ file. (frame : Frame) → IsFrame K.cmp file frame → ⊥) (λ file. (frame : Frame) (is : IsFrame K.cmp file frame) → IsOversized K.cmp file frame is)) }
     {
@@ -100,7 +101,7 @@ impl<K: KeyOrder> Table<K> {
         })
     }
 
-    /// The handles of the data blocks, in order.
+    /// Returns the handles of the data blocks, in order.
     pub fn index(&self, alloc: Global) -> Result<Vec<Handle>, AllocError>
         ensures { IfOk result (λ found. found.items ≡ handles self.now.frame) }
     {
@@ -109,25 +110,26 @@ impl<K: KeyOrder> Table<K> {
         Ok(found)
     }
 
-    /// The data blocks, in order: of each a key that bounds it, and where it is.
+    /// Returns the data blocks, in order: of each a key that bounds it, and where it is.
     pub fn places(&self) -> &[Place]
         ensures { result.now ≡ self.now.frame.places }
     {
         &self.places
     }
 
-    /// The index of the first data block that can have an entry whose internal key isn't below the target, or their
-    /// number.
+    /// Returns the index of the first data block that can have an entry whose internal key isn't
+    /// below the target, or their number.
     pub fn first_place(&self, target: &[u8]) -> usize
         ensures { IsFirstPlace K.cmp target.now self.now.frame.places result }
     {
         first_place::<K>(&self.places, &self.fronts, target)
     }
 
-    /// The data block of this index, held against its place. Corrupt, where there is none: its checksum, its restarts or the order of its
-    /// keys is wrong, or one of them is no internal key, isn't above the bound of the place in front, or is above its own; Unsupported,
-    /// where it has a type other than 0 or more than 2^30 bytes. It is read into `room` where it fits, whose own bytes are
-    /// dropped.
+    /// Reads the data block of this index, and checks it against its place. It is read into `room`
+    /// if it fits, whose own bytes are dropped. Corrupt: there is no such block, or its checksum,
+    /// its restart points or the order of its keys is wrong. A key that is no internal key, isn't
+    /// above the bound of the place before, or is above its own bound is Corrupt too. Unsupported:
+    /// the block has a type other than 0 or more than 2^30 bytes.
     pub fn block_at<S: Store>(
         &self,
         alloc: Global,
@@ -153,8 +155,9 @@ impl<K: KeyOrder> Table<K> {
         }
     }
 
-    /// The entries, in order, as the bytes of their internal keys and their values. What bounds, filter and the order
-    /// of the blocks say isn't checked. Corrupt and Unsupported as `read_data`.
+    /// Reads the entries, in order, as the bytes of their internal keys and their values. What
+    /// bounds, filter and the order of the blocks say isn't checked. Corrupt and Unsupported as
+    /// `read_data`.
     pub fn entries<S: Store>(&self, alloc: Global, store: &mut S) -> Result<Vec<KeyValue>, DbError>
         ensures reads { Reads (S.facts store.old) (S.facts store.new) }
         ensures found { IfOk result (λ found. Answers (S.facts store.old) (S.facts store.new) self.now.name
@@ -163,7 +166,7 @@ impl<K: KeyOrder> Table<K> {
         ensures noted { IfErr result (λ e. IsNoted self.now.name e (S.told store.new)) }
         ensures told { IfErr result (λ e. Refuses e (S.facts store.old) (S.facts store.new) self.now.name
             (λ file. IsOfOne (IsDamaged K.cmp file) self.now.frame.places) (λ file. IsOfOne (IsUnsupported file) self.now.frame.places)) }
-        // A table is refused only where one of its blocks is too long.
+        // A table is refused only if one of its blocks is too long.
         ensures refused { IfErr result (λ e. Refuses e (S.facts store.old) (S.facts store.new) self.now.name
             (λ file. (entries : List InternalEntry) → IsFrame K.cmp file self.now.frame → IsTable K.cmp file entries → ⊥)
             (λ file. (entries : List InternalEntry) → IsFrame K.cmp file self.now.frame → IsTable K.cmp file entries → AnyLong (handles self.now.frame))) }
@@ -174,9 +177,9 @@ impl<K: KeyOrder> Table<K> {
         }
     }
 
-    /// The entries as `entries`, with all else that makes the file a table: there is one at least, their keys are internal
-    /// keys, each is within the bounds of its block, and its filter admits it. Corrupt, where that isn't so, and
-    /// Corrupt and Unsupported as `read_data`.
+    /// Reads the entries as `entries`, and checks all else that makes the file a table. There is
+    /// one at least, their keys are internal keys, each is within the bounds of its block, and its
+    /// filter admits it. Corrupt: that isn't so. Corrupt and Unsupported also as `read_data`.
     pub fn check_entries<S: Store>(
         &self,
         alloc: Global,
@@ -190,7 +193,7 @@ impl<K: KeyOrder> Table<K> {
         ensures told { IfErr result (λ e. Refuses e (S.facts store.old) (S.facts store.new) self.now.name
             (λ file. IsWrong K.cmp file self.now.frame.filter None self.now.frame.places ⊎ AreEmpty K.cmp file self.now.frame.places)
             (λ file. IsOfOne (IsUnsupported file) self.now.frame.places)) }
-        // A table is refused only where one of its blocks is too long.
+        // A table is refused only if one of its blocks is too long.
         ensures refused { IfErr result (λ e. Refuses e (S.facts store.old) (S.facts store.new) self.now.name
             (λ file. (entries : List InternalEntry) → IsFrame K.cmp file self.now.frame → IsTable K.cmp file entries → ⊥)
             (λ file. (entries : List InternalEntry) → IsFrame K.cmp file self.now.frame → IsTable K.cmp file entries → AnyLong (handles self.now.frame))) }
@@ -212,9 +215,10 @@ impl<K: KeyOrder> Table<K> {
         Ok(found)
     }
 
-    /// The data block of this index, with all that makes it the block of a table checked: its keys are internal keys, each is within the
-    /// bounds of the block, and the filter admits it. Corrupt, where that isn't so or there is no such block,
-    /// and Corrupt and Unsupported as `read_data`.
+    /// Reads the data block of this index, and checks all that makes it the block of a table. Its
+    /// keys are internal keys, each is within the bounds of the block, and the filter admits it.
+    /// Corrupt: that isn't so, or there is no such block. Corrupt and Unsupported also as
+    /// `read_data`.
     pub fn check_block<S: Store>(
         &self,
         alloc: Global,
@@ -247,9 +251,9 @@ impl<K: KeyOrder> Table<K> {
         }
     }
 
-    /// The first entry whose internal key isn't below the target, an internal key, as the bytes of its key and its
-    /// value, if there is one. Of the blocks only those are read that can have it. Corrupt and Unsupported as
-    /// `read_data`.
+    /// Returns the first entry whose internal key isn't below the target, an internal key, as the
+    /// bytes of its key and its value, if there is one. It reads only blocks that can have it.
+    /// Corrupt and Unsupported as `read_data`.
     pub fn seek<S: Store>(
         &self,
         alloc: Global,
@@ -265,7 +269,7 @@ impl<K: KeyOrder> Table<K> {
         ensures told { IfErr result (λ e. Refuses e (S.facts store.old) (S.facts store.new) self.now.name
             (λ file. IsOfOneFrom K.cmp target.now (IsDamaged K.cmp file) self.now.frame.places)
             (λ file. IsOfOneFrom K.cmp target.now (IsUnsupported file) self.now.frame.places)) }
-        // A table is refused only where one of its blocks is too long.
+        // A table is refused only if one of its blocks is too long.
         ensures refused { IfErr result (λ e. Refuses e (S.facts store.old) (S.facts store.new) self.now.name
             (λ file. (entries : List InternalEntry) → IsFrame K.cmp file self.now.frame → IsTable K.cmp file entries → ⊥)
             (λ file. (entries : List InternalEntry) → IsFrame K.cmp file self.now.frame → IsTable K.cmp file entries → AnyLong (handles self.now.frame))) }
@@ -278,8 +282,9 @@ impl<K: KeyOrder> Table<K> {
         }
     }
 
-    /// Whether the data block at a handle may hold an entry of the user key: no for few keys that it doesn't hold, and
-    /// never for one that it holds. Without a filter block, yes.
+    /// Returns false only if the data block at this handle doesn't hold the user key. It returns
+    /// true for every key that the block holds, and for a few that it doesn't. Without a filter
+    /// block: true.
     pub fn admits(&self, handle: Handle, key: &[u8]) -> bool
         ensures { MatchBool result (TableAdmits self.now.frame.filter handle.offset (hash_of key.now))
             (TableDenies self.now.frame.filter handle.offset (hash_of key.now)) }
@@ -288,7 +293,7 @@ impl<K: KeyOrder> Table<K> {
     }
 }
 
-// The bound of the place in front of the one of this index.
+// The bound of the place before the one of this index.
 fn floor_of(places: &[Place], index: usize) -> Option<&[u8]>
     ensures { option_copied result ≡ floor_value places.now index }
 {
@@ -297,7 +302,7 @@ fn floor_of(places: &[Place], index: usize) -> Option<&[u8]>
     Some(place.key.as_slice())
 }
 
-/// Law: no file is two tables.
+/// Proves that no file is two tables.
 pub fn one_table()
     ensures { OneTable }
 {}

@@ -25,7 +25,7 @@ pub fn create<S: Store>(store: &mut S, name: &str) -> Result<(), DbError>
     }
 }
 
-/// Writes bytes at the end of the file. A refusal may have written a beginning of them.
+/// Writes bytes at the end of the file. If it fails, it may have written a beginning of them.
 pub fn append<S: Store>(store: &mut S, name: &str, bytes: &[u8]) -> Result<(), DbError>
     ensures writes { Writes (S.facts store.old) (S.facts store.new) name.now }
     ensures appended { OnOk result (Appended (S.facts store.old) (S.facts store.new) name.now bytes.now) }
@@ -38,7 +38,7 @@ pub fn append<S: Store>(store: &mut S, name: &str, bytes: &[u8]) -> Result<(), D
     }
 }
 
-/// Has the device keep the file of a table as it is now. Io where it fails.
+/// Syncs the file of a table as it is now. Io: that failed.
 pub fn sync<S: Store>(store: &mut S, name: &str) -> Result<(), DbError>
     ensures writes { Writes (S.facts store.old) (S.facts store.new) name.now }
     ensures files { IsTrue (S.facts store.new).faithful → (S.facts store.new).files ≡ (S.facts store.old).files }

@@ -1,4 +1,4 @@
--- Where a cursor over a memory table arrives.
+-- Where a cursor over a memtable arrives.
 use Rattle.std.proofs.Common.{◌≡◌, ◌+◌, ◌≤◌, ℕ, suc, true, false, is_some, List, [], ◌∷◌, ◌++◌, Option, Some, None, Result, Ok, Err, length, map, refl, sym, ap, subst, ◌∙◌, arith, length-append, inl, inr}
 use Rattle.std.specs.Prelude.{IfSome, IsTrue, OnOk, OnErr}
 use Rattle.std.specs.List.{AllByRecursion, slice_get}

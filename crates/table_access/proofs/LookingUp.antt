@@ -1,4 +1,4 @@
--- What the first entry that isn't below a user key at a sequence says of that key.
+-- What the first entry that isn't below a user key at a sequence number says of that key.
 use Rattle.std.proofs.Common.{◌≡◌, ◌<◌, ◌≤◌, ℕ, List, [], ◌∷◌, ◌++◌, Option, Some, None, length, map, refl, sym, ap, ◌∙◌, subst, arith, inl, inr}
 use Rattle.std.specs.Cmp.{IsTotalOrder, tied_itself, nat_cmp_is}
 use Rattle.std.specs.FinMap.{IsAntisymmetric}
@@ -125,7 +125,7 @@ module _ (cmp : Cmp) (total : IsTotalOrder cmp) (exact : IsAntisymmetric cmp) wh
           found_there None says = other_there says
           found_there (Some value) says = (entry_of entry, newest says.0, says.0, says.1)
 
--- the first internal key of a user key up to a sequence is one
+-- the first internal key of a user key up to a sequence number is one
 pub one_first_key : (cmp : Cmp) → IsTotalOrder cmp → IsAntisymmetric cmp → (user : List ℕ) (sequence : ℕ) (a b : List ℕ) → IsFirstKey user sequence a → IsFirstKey user sequence b → a ≡ b
 one_first_key cmp total exact user sequence a b h k =
     let same : h.key.user ≡ k.key.user = h.user_is ∙ sym k.user_is in

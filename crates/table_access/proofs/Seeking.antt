@@ -66,7 +66,7 @@ module _ (cmp : Cmp) (total : IsTotalOrder cmp) (exact : IsAntisymmetric cmp) (k
       nat_less (tag_of key) (tag_of (internal_key_of entry)) (omega (arith, newer, one))
   from_order Greater entry h = let bad : false ≡ true = h in cc
 
-  -- what stands before the user key and sequence is below the key
+  -- what stands before the user key and sequence number is below the key
   before_below : (entry : Entry) → IsBefore entry → Below entry
   before_below entry h = from_order (cmp entry.key key.user) entry h
 
@@ -77,7 +77,8 @@ module _ (cmp : Cmp) (total : IsTotalOrder cmp) (exact : IsAntisymmetric cmp) (k
       let both = (key_total cmp total).trans (internal_key_of entry) (internal_key_of later) key less (less_is (key_cmp cmp (internal_key_of later) key) t) in
       let bad : true ≡ false = sym (ap is_less both) ∙ h in cc)
 
-  -- an entry below the key that doesn't stand before its user key and sequence is the put where the key is the delete
+  -- an entry below the key that doesn't stand before its user key and sequence number is the put
+  -- where the key is the delete
   record IsItsPut (entry : Entry) : Type 0 where
     pub user : entry.key ≡ key.user
     pub tag : tag_of (internal_key_of entry) ≡ tag_of key + 1

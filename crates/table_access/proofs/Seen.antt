@@ -1,4 +1,4 @@
--- The entries up to a sequence.
+-- The entries up to a sequence number.
 use Rattle.std.proofs.Common.{◌≡◌, ◌⊎◌, ◌<◌, ◌≤◌, ℕ, Bool, true, false, nat_le, cond, List, [], ◌∷◌, ◌++◌, Some, refl, sym, ap, subst, ◌∙◌, inl, inr}
 use Rattle.std.proofs.lemmas.Bool.{cond_both, cases_lt, lt-leb, le-leb}
 use Rattle.std.specs.List.{AllByRecursion}

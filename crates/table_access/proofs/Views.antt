@@ -1,4 +1,4 @@
--- What readers see of a memory table, and when two are the same.
+-- What readers see of a memtable, and when two are the same.
 use Rattle.std.proofs.Common.{◌≡◌, ◌+◌, ◌-◌, ◌<◌, ◌≤◌, ℕ, zero, suc, List, [], ◌∷◌, ◌++◌, Option, Some, None, length, map, refl, sym, ap, subst, ◌∙◌, arith, inl, inr}
 use Rattle.std.specs.List.{AllByRecursion, slice_get}
 use Rattle.std.proofs.lemmas.Bool.{cases_lt, cond_both}
@@ -74,7 +74,7 @@ seen_listed sequence (one ∷ later) = elim (cases_lt sequence one.entry.sequenc
       )
 ]
 
--- a part with all entries up to the sequence has the same view
+-- a part with all entries up to the sequence number has the same view
 view_of_part : (inserts part : List Entry) (sequence : ℕ) (view : Contents) → ((entry : Entry) → Among part entry → Among inserts entry)
     → ((entry : Entry) → Among inserts entry → entry.sequence ≤ sequence → Among part entry) → IsView inserts sequence view → IsView part sequence view
 view_of_part inserts part sequence view within has h = record {
@@ -88,7 +88,7 @@ view_of_seen cmp inserts sequence view = view_of_part inserts (map entry_of (see
     (λ entry m le. among-all (λ (e : Entry). e.sequence ≤ sequence → IsListed (up_to sequence (ordered cmp inserts)) e) inserts entry
     (ordered-all cmp (λ (e : Entry). e.sequence ≤ sequence → IsListed (up_to sequence (ordered cmp inserts)) e) inserts (seen_listed sequence (ordered cmp inserts))) m le)
 
--- ---- the same entries up to each sequence
+-- ---- the same entries up to each sequence number
 
 pub later_kept : (cmp : Cmp) (at sequence : ℕ) (old new more : List Entry) → at ≤ sequence → AllByRecursion (λ (entry : Entry). sequence < entry.sequence) more → new ≡ old ++ more
     → up_to at (ordered cmp old) ≡ up_to at (ordered cmp new)
@@ -96,7 +96,7 @@ later_kept cmp at sequence old new more le all is =
     sym (later-unseen cmp at old more (all-map (λ (entry : Entry). sequence < entry.sequence) (λ (entry : Entry). at < entry.sequence) more (λ entry l. omega (arith, l, le)) all))
     ∙ ap (λ (v : List Entry). up_to at (ordered cmp v)) (sym is)
 
--- a sequence that none is above
+-- a sequence number that none is above
 abbrev bound : List Entry → ℕ
 bound [] = 0
 bound (entry ∷ entries) = entry.sequence + bound entries

@@ -1,4 +1,5 @@
--- The first and the last key of a table, which its version edit says (LevelDB's db/version_edit.h, FileMetaData).
+-- The first and the last key of a table, which its version edit says (LevelDB's db/version_edit.h,
+-- FileMetaData).
 use Rattle.std.specs.Prelude.{◌≡◌, ℕ, suc, List, Some, length, slice_get}
 use Rattle.cursor.specs.Places.{Cmp}
 use Rattle.edits.specs.declared.field.PlacedTable.{PlacedTable}
@@ -16,7 +17,8 @@ BeginsAt key pairs = (pair : Pair) → slice_get pairs 0 ≡ Some pair → pair.
 abbrev pub EndsAt : List ℕ → List Pair → Type 0
 EndsAt key pairs = (last : ℕ) (pair : Pair) → suc last ≡ length pairs → slice_get pairs last ≡ Some pair → pair.key ≡ key
 
--- The first of so many blocks begins at the smallest key of its table's edit, and the last one ends at the largest.
+-- The first of so many blocks begins at the smallest key of its table's edit, and the last one ends
+-- at the largest.
 pub record HasEnds (placed : PlacedTable) (count index : ℕ) (pairs : List Pair) : Type 0 where
   pub first : index ≡ 0 → BeginsAt placed.table.smallest pairs
   pub last : suc index ≡ count → EndsAt placed.table.largest pairs

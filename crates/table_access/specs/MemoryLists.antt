@@ -1,4 +1,4 @@
--- What a cursor over a memory table lists, and where it stands.
+-- What a cursor over a memtable lists, and where it stands.
 use Rattle.std.specs.Prelude.{◌≡◌, ◌<◌, ◌+◌, ℕ, suc, List, ◌∷◌, Option, Some, None, length, is_some}
 use Rattle.std.proofs.Common.{sym, ap, ◌∙◌, subst, arith}
 use Rattle.std.proofs.lemmas.List.{length-append, length-map}

@@ -12,8 +12,9 @@ use Rattle.table_access.specs.TablePlaces.{joined}
 use Rattle.table.specs.Frame.{Frame, IsFrame}
 use Rattle.table.specs.Table.{AreAdmitted, AreBounds, ArePairs}
 
--- Behind this frame the table may have these entries: the pairs of its data blocks joined, of each block that is one its own, and of another
--- one any; they rise strictly, each within the bounds of its block and admitted by its filter.
+-- Behind this frame the table may have these entries: the pairs of its data blocks joined, of each
+-- block that is one its own, and of another one any; they rise strictly, each within the bounds of
+-- its block and admitted by its filter.
 pub record MayHave (cmp : Cmp) (placed : PlacedTable) (file : List ℕ) (frame : Frame) (entries : List InternalEntry) : Type 0 where
   pub groups : List (List Pair)
   pub same_length : length frame.places ≡ length groups
@@ -27,8 +28,8 @@ pub record MayHave (cmp : Cmp) (placed : PlacedTable) (file : List ℕ) (frame :
 abbrev pub HaveKeys : List InternalEntry → Type 0
 HaveKeys entries = AllByRecursion (λ (entry : InternalEntry). (bytes : List ℕ) × IsKey bytes entry.key) entries
 
--- The file may be the table of these entries, of which there is one at least, and which rise: those of each frame that it has, and any
--- where it has none.
+-- The file may be the table of these entries, of which there is one at least, and which rise: those
+-- of each frame that it has, and any where it has none.
 pub record MayBeTable (cmp : Cmp) (placed : PlacedTable) (file : List ℕ) (entries : List InternalEntry) : Type 0 where
   pub some : 0 < length entries
   pub keyed : HaveKeys entries

@@ -26,7 +26,8 @@ pairs_before [] index = zero
 pairs_before (pairs ∷ groups) zero = zero
 pairs_before (pairs ∷ groups) (suc index) = length pairs + pairs_before groups index
 
--- In the block of this index, which has these pairs, it stands on one that has this place among the pairs of all blocks.
+-- In the block of this index, which has these pairs, it stands on one that has this place among the
+-- pairs of all blocks.
 pub record IsInBlock (groups : List (List Pair)) (index : ℕ) (block : Placed) (place : Option ℕ) : Type 0 where
   pub inside : ℕ
   pub block_is : slice_get groups index ≡ Some block.pairs
@@ -43,8 +44,9 @@ abbrev pub block_stands : Option (InBlock Placed) → Bool
 block_stands None = false
 block_stands (Some here) = is_some here.cursor.place
 
--- A cursor over this table of an edit, open with this frame, is this list and this place. The list is one that the table may have, as far as
--- its blocks tell: where all are intact, that is the table's own.
+-- A cursor over this table of an edit, open with this frame, is this list and this place. The list
+-- is one that the table may have, as far as its blocks tell: where all are intact, that is the
+-- table's own.
 pub record ListsTable (cmp : Cmp) (source : Seen) (placed : PlacedTable) (frame : Frame) (here : Option (InBlock Placed)) (at : Listed) : Type 0 where
   pub groups : List (List Pair)
   pub has : HasData cmp source placed frame groups
@@ -55,7 +57,8 @@ pub record ListsTable (cmp : Cmp) (source : Seen) (placed : PlacedTable) (frame 
   pub inside : (index : ℕ) → at.place ≡ Some index → index < length at.entries
   pub place : IsPlacedIn groups here at.place
 
--- the second source has the same table of this number, and what it keeps is right where that of the first is
+-- the second source has the same table of this number, and what it keeps is right where that of the
+-- first is
 pub record KeepsSeenTable (cmp : Cmp) (number : ℕ) (old new : Seen) : Type 0 where
   pub same : table_at new.facts.files number ≡ table_at old.facts.files number
   pub sound : IsSound cmp old → IsSound cmp new
@@ -67,7 +70,8 @@ abbrev pub Passed : Cmp → Aim → List ℕ → Type 0
 Passed cmp First key = ⊥
 Passed cmp (From target) key = IsBelowInternal cmp key target.now
 
--- From one index on, the other is that of the first pair whose key isn't passed, or the number of pairs.
+-- From one index on, the other is that of the first pair whose key isn't passed, or the number of
+-- pairs.
 pub record StopsAt (passed : List ℕ → Type 0) (pairs : List Pair) (from index : ℕ) : Type 0 where
   pub inside : index ≤ length pairs
   pub reached : from ≤ index
@@ -76,14 +80,16 @@ pub record StopsAt (passed : List ℕ → Type 0) (pairs : List Pair) (from inde
 
 -- ---- steps within a block
 
--- It has gone on to the pair behind; or it stays, and the pair behind is the first from this block on.
+-- It has gone on to the pair behind; or it stays, and the pair behind is the first from this block
+-- on.
 abbrev pub StepsOn : List (List Pair) → Option (InBlock Placed) → Option ℕ → Option ℕ → Type 0
 StepsOn groups new place None =
     IsTrue (is_some (option_and_then (index_behind (joined groups)) place)) × IsPlacedIn groups new (option_and_then (index_behind (joined groups)) place)
 StepsOn groups new place (Some start) =
     IsPlacedIn groups new place × (start ≤ length groups) × (within (joined groups) (pairs_before groups start) ≡ option_and_then (index_behind (joined groups)) place)
 
--- It has gone back to the pair in front; or it stays, and the pair in front is the last of the blocks in front of this one.
+-- It has gone back to the pair in front; or it stays, and the pair in front is the last of the
+-- blocks in front of this one.
 abbrev pub StepsBack : List (List Pair) → Option (InBlock Placed) → Option ℕ → Option ℕ → Type 0
 StepsBack groups new place None = IsTrue (is_some (option_and_then index_before place)) × IsPlacedIn groups new (option_and_then index_before place)
 StepsBack groups new place (Some end) =
@@ -91,8 +97,8 @@ StepsBack groups new place (Some end) =
 
 -- ---- steps over the table
 
--- What a step that looks for this place answers: that it has gone there; that there is none; or why it was refused. Where
--- it hasn't gone on, it stays.
+-- What a step that looks for this place answers: that it has gone there; that there is none; or why
+-- it was refused. Where it hasn't gone on, it stays.
 abbrev pub StepsTo : (Listed → Type 0) → (Listed → Option ℕ) → Result Bool DbError → Listed → Type 0
 StepsTo lists to (Ok true) at = IsTrue (is_some (to at)) × lists (record at { place = to at })
 StepsTo lists to (Ok false) at = (to at ≡ None) × lists at

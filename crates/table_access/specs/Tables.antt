@@ -34,7 +34,8 @@ seen_through facts source = seen (facts source.store) source.tables source.block
 abbrev pub open_tables : ℕ
 open_tables = 990
 
--- Each kept table and block is what a read of the store's file gives, of those numbers of which it has a table.
+-- Each kept table and block is what a read of the store's file gives, of those numbers of which it
+-- has a table.
 pub record IsSound (cmp : Cmp) (source : Seen) : Type 0 where
   pub tables : HoldsTables cmp (table_at source.facts.files) source.facts source.tables
   pub blocks : HoldsBlocks cmp (table_at source.facts.files) source.blocks
@@ -52,9 +53,9 @@ Knows source number = KeepsOf source number ⊎ (IsNumbered number × IsSome (ta
 abbrev pub Only : ℕ → ℕ → Type 0
 Only number other = other ≡ number
 
--- A call that reads tables of such numbers only reads the store, and leaves what is kept right. What it keeps anew is of
--- tables that are there: of what it knows afterwards, it knew before. And it is of tables of such numbers, whatever the
--- store returns.
+-- A call that reads tables of such numbers only reads the store, and leaves what is kept right.
+-- What it keeps anew is of tables that are there: of what it knows afterwards, it knew before. And
+-- it is of tables of such numbers, whatever the store returns.
 pub record Carries (cmp : Cmp) (numbers : ℕ → Type 0) (old new : Seen) : Type 0 where
   pub reads : Reads old.facts new.facts
   pub sound : IsTrue new.facts.faithful → IsSound cmp old → IsSound cmp new
@@ -86,7 +87,8 @@ IsBlockUnsupported cmp index file = IsFrameUnsupported file ⊎ ((frame : Frame)
 abbrev pub HasIntact : Cmp → ℕ → List Pair → List ℕ → Type 0
 HasIntact cmp index pairs file = (frame : Frame) → IsFrame cmp file frame → IsIntact cmp file frame.places index pairs
 
--- The store has, as this table of an edit, a file of this frame whose data blocks may have these pairs: each that is one has its own.
+-- The store has, as this table of an edit, a file of this frame whose data blocks may have these
+-- pairs: each that is one has its own.
 pub record HasData (cmp : Cmp) (source : Seen) (placed : PlacedTable) (frame : Frame) (groups : List (List Pair)) : Type 0 where
   pub file : List ℕ
   pub table : HasSoundTable cmp source placed.table.number file
@@ -100,7 +102,8 @@ pub record HasData (cmp : Cmp) (source : Seen) (placed : PlacedTable) (frame : F
 abbrev pub EmptyIsSound : Type 0
 EmptyIsSound = (cmp : Cmp) (facts : Facts) → IsSound cmp (record { facts = facts; tables = []; blocks = [] })
 
--- What is kept stays right while files change, where those of the tables of which something is kept stay or go.
+-- What is kept stays right while files change, where those of the tables of which something is kept
+-- stay or go.
 abbrev pub SoundLasts : Type 0
 SoundLasts = (cmp : Cmp) (source : Seen) (facts : Facts)
     → ((kept : KeptTable) (file : List ℕ) → Contains source.tables kept → table_at facts.files kept.number ≡ Some file

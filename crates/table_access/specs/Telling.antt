@@ -24,7 +24,8 @@ IsPassed cmp passed placed file frame index =
 abbrev pub CameTo : Cmp → (List ℕ → Type 0) → PlacedTable → List ℕ → Frame → ℕ → ℕ → Type 0
 CameTo cmp passed placed file frame start end = (index : ℕ) → start ≤ index → index < end → IsPassed cmp passed placed file frame index
 
--- From one block on, the block of this index is the first that has a pair which isn't passed, and this is its first such pair.
+-- From one block on, the block of this index is the first that has a pair which isn't passed, and
+-- this is its first such pair.
 pub record IsFirstFound (cmp : Cmp) (passed : List ℕ → Type 0) (placed : PlacedTable) (file : List ℕ) (frame : Frame) (start index : ℕ) (pairs : List Pair) (place : Option ℕ) : Type 0 where
   pub reached : start ≤ index
   pub came : CameTo cmp passed placed file frame start index
@@ -50,8 +51,8 @@ pub record FirstSays (cmp : Cmp) (passed : List ℕ → Type 0) (placed : Placed
   pub is : IsPair found.pair entry
   pub says : SaysOfEntry entry key value
 
--- What the blocks tell that a search for a user key up to a sequence comes to, each of which is one: what the first entry that isn't
--- below its first key put; or nothing, where there is none.
+-- What the blocks tell that a search for a user key up to a sequence number comes to, each of which
+-- is one: what the first entry that isn't below its first key put; or nothing, where there is none.
 pub record Tells (cmp : Cmp) (placed : PlacedTable) (file : List ℕ) (frame : Frame) (key : List ℕ) (sequence : ℕ) (value : Option (Option (List ℕ))) : Type 0 where
   pub target : List ℕ
   pub start : ℕ
@@ -76,7 +77,8 @@ IfCorrupt error P = Unit {0}
 abbrev pub IsTornIn : Cmp → PlacedTable → List ℕ → Frame → ℕ → Type 0
 IsTornIn cmp placed file frame index = (pairs : List Pair) → IsIntactIn cmp placed file frame.places index pairs → ⊥
 
--- From one block on a search comes to one of the table's that is none: each in front of it is one, and passed.
+-- From one block on a search comes to one of the table's that is none: each in front of it is one,
+-- and passed.
 pub record StopsTorn (cmp : Cmp) (passed : List ℕ → Type 0) (placed : PlacedTable) (file : List ℕ) (frame : Frame) (start : ℕ) : Type 0 where
   pub index : ℕ
   pub reached : start ≤ index
@@ -84,7 +86,7 @@ pub record StopsTorn (cmp : Cmp) (passed : List ℕ → Type 0) (placed : Placed
   pub came : CameTo cmp passed placed file frame start index
   pub torn : IsTornIn cmp placed file frame index
 
--- So does the search for a user key up to a sequence.
+-- So does the search for a user key up to a sequence number.
 pub record TornOfKey (cmp : Cmp) (placed : PlacedTable) (key : List ℕ) (sequence : ℕ) (file : List ℕ) : Type 0 where
   pub frame : Frame
   pub frame_is : IsFrame cmp file frame

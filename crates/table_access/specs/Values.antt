@@ -14,7 +14,8 @@ use Rattle.table.specs.Refusals.{IsFirstPlace, IsFrameUnsupported}
 use Rattle.table.specs.Table.{IsTable}
 use Rattle.table_access.specs.Ends.{HasKeysOf}
 
--- what a search for a user key has found: nothing where none of its entries is seen, and else what the newest one put
+-- what a search for a user key has found: nothing where none of its entries is seen, and else what
+-- the newest one put
 abbrev pub IsLookUp : List Entry → ℕ → List ℕ → Option (Option (List ℕ)) → Type 0
 IsLookUp entries sequence key None = IsUnseen entries sequence key
 IsLookUp entries sequence key (Some value) =
@@ -39,7 +40,8 @@ StandsOnKey cursor = (index : ℕ) (pair : Pair) → cursor.place ≡ Some index
 abbrev pub StandsOnNone : Placed → Type 0
 StandsOnNone cursor = (index : ℕ) (pair : Pair) (key : Key) → cursor.place ≡ Some index → slice_get cursor.pairs index ≡ Some pair → IsKey pair.key key → ⊥
 
--- the filter says that the block of this index has no entry of the user key, and the block's bound is of another one
+-- the filter says that the block of this index has no entry of the user key, and the block's bound
+-- is of another one
 pub record DeniesKey (frame : Frame) (start : ℕ) (key : List ℕ) : Type 0 where
   pub place : Place
   pub bound : Key
@@ -48,7 +50,7 @@ pub record DeniesKey (frame : Frame) (start : ℕ) (key : List ℕ) : Type 0 whe
   pub other : bound.user ≡ key → ⊥
   pub denied : TableDenies frame.filter place.handle.offset (hash_of key)
 
--- it says so of the first block that can have an entry of the user key up to this sequence
+-- it says so of the first block that can have an entry of the user key up to this sequence number
 pub record IsDenied (cmp : Cmp) (frame : Frame) (key : List ℕ) (sequence : ℕ) : Type 0 where
   pub target : List ℕ
   pub start : ℕ

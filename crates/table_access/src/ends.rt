@@ -9,8 +9,8 @@ use ikey::{Internal, KeyOrder, same_bytes};
 use std::alloc::{AllocError, Global};
 use std::rc::Rc;
 
-/// Whether the block of this index, of so many, begins and ends as the edit says, where it is the first or the last. Of another one no key
-/// is looked at.
+/// Returns whether the block of this index, of so many, begins and ends as the edit says, if it is
+/// the first or the last. Of another one no key is compared.
 pub fn has_ends<K: KeyOrder>(
     alloc: Global,
     placed: &PlacedTable,

@@ -2,7 +2,7 @@
 
 ghost use Rattle.std.specs.Prelude.{◌<◌, ◌+◌, ◌^◌};
 
-/// A cursor in one of a table's data blocks.
+/// Holds a cursor in one of a table's data blocks.
 #[derive(Drop)]
 pub struct InBlock<C> {
     /// The index of the block.

@@ -1,4 +1,5 @@
-//! What a read goes over: memory tables, and a store's tables with what is kept of them in memory, each under a cursor.
+//! What a read goes over: memtables, and a store's tables with what is kept of them in memory,
+//! each under a cursor.
 #![tactic(auto)]
 
 mod ends;

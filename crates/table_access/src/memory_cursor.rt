@@ -1,4 +1,4 @@
-//! A cursor over a memory table (LevelDB's db/memtable.cc, MemTableIterator).
+//! A cursor over a memtable (LevelDB's db/memtable.cc, MemTableIterator).
 
 ghost use Rattle.std.specs.Prelude.{◌≡◌, ◌<◌, ◌^◌, ◌++◌, List, nat_lt, OnOk, IfSome};
 ghost use Rattle.ikey.specs.Entries.{internal_key_of, internal_entry_of};
@@ -19,16 +19,17 @@ use std::cmp::Ordering;
 use std::marker::{Model, PhantomData};
 use std::mem;
 
-/// A cursor over the entries of a memory table up to a sequence; those above it are stepped over. Contracts see the
-/// sequence, the node on which it stands, if it stands on one, and the internal key at hand. Entries that are added behind it
-/// leave its list where their sequences are greater.
+/// Holds a cursor over the entries of a memtable up to a sequence number; those above it are
+/// stepped over. Contracts see the sequence number, the node on which it stands, if it stands on
+/// one, and the internal key at hand. Entries that are added later don't change its list if their
+/// sequence numbers are greater.
 #[derive(Drop)]
 pub struct MemoryCursor<K: KeyOrder> {
     sequence: u64,
     node: Option<Node>,
     // the internal key of the node's entry
     key: Vec<u8>,
-    // room for the next one, so that a refused growth changes nothing
+    // room for the next one, so that a failed growth changes nothing
     spare: Vec<u8>,
     order: PhantomData<K>,
 }
@@ -55,7 +56,8 @@ impl<K: KeyOrder> MemoryCursor<K> {
     ghost use Rattle.cursor.specs.Merging.{listed};
     ghost use Rattle.table_access.specs.Memory.{ListsMemory, seen_entries, IsSeen, IsKeyAt};
 
-    /// A cursor over the entries up to the sequence, which is below `SEQUENCE_END`. It stands nowhere, and takes no memory.
+    /// Makes a cursor over the entries up to the sequence number, which is below `SEQUENCE_END`. It
+    /// stands nowhere, and takes no memory.
     pub fn new(alloc: Global, sequence: u64) -> Self
         requires { sequence < 2 ^ 56 }
         ensures { result ≡ record { sequence = sequence; node = None; key = [] } }
@@ -69,7 +71,8 @@ impl<K: KeyOrder> MemoryCursor<K> {
         }
     }
 
-    /// Law: a cursor that stands nowhere, as a new one does, stands for what is seen of any memory table at its sequence.
+    /// Proves that a cursor that stands nowhere, as a new one does, stands for what is seen of any
+    /// memtable at its sequence number.
     pub fn begins(&self, table: &MemTable<K>)
         requires { self.now.node ≡ None }
         ensures { ListsMemory K.cmp self.now table.now (listed (seen_entries K.cmp table.now.inserts self.now.sequence) None) }
@@ -124,7 +127,7 @@ impl<K: KeyOrder> MemoryCursor<K> {
         Ok(())
     }
 
-    // The node on which the cursor stands, where the table has it.
+    // The node on which the cursor stands, if the table has it.
     fn place_in(&self, table: &MemTable<K>) -> Option<Node>
         ensures place { IfSome result (IsPlace table.now.inserts) }
         ensures found { (node : ℕ) → self.now.node ≡ Some node → IsPlace table.now.inserts node → result ≡ Some node }
@@ -242,7 +245,7 @@ impl<K: KeyOrder> Cursor<K, MemTable<K>> for MemoryCursor<K> {
     ghost leaves_more = { λ fewer more old new less k. k };
 }
 
-// The first node from this one on whose entry is up to the sequence.
+// The first node from this one on whose entry is up to the sequence number.
 fn seen_from<K: KeyOrder>(table: &MemTable<K>, sequence: u64, node: Option<Node>) -> Option<Node>
     requires { IfSome node (IsPlace table.now.inserts) }
     ensures first { (front back : List Placed) → ordered K.cmp table.now.inserts ≡ front ++ back → node ≡ first_of back
@@ -262,7 +265,7 @@ fn seen_from<K: KeyOrder>(table: &MemTable<K>, sequence: u64, node: Option<Node>
     None
 }
 
-// The last node up to this one whose entry is up to the sequence.
+// The last node up to this one whose entry is up to the sequence number.
 fn seen_back<K: KeyOrder>(table: &MemTable<K>, sequence: u64, node: Option<Node>) -> Option<Node>
     requires { IfSome node (IsPlace table.now.inserts) }
     ensures last { (front back : List Placed) → ordered K.cmp table.now.inserts ≡ front ++ back → node ≡ last_of front
@@ -282,8 +285,9 @@ fn seen_back<K: KeyOrder>(table: &MemTable<K>, sequence: u64, node: Option<Node>
     None
 }
 
-// The place of the first entry whose internal key isn't below this one. The table is searched by user key and sequence, so
-// what it finds may be the put of a sequence whose delete is sought, which comes before that.
+// The place of the first entry whose internal key isn't below this one. The table is searched by
+// user key and sequence number. So what it finds may be the put of a sequence number whose delete
+// is sought, which comes before that.
 fn first_from<K: KeyOrder>(table: &MemTable<K>, key: &InternalKey<'_>) -> Option<Node>
     ensures from { IsFrom K.cmp (key_of key.now) (ordered K.cmp table.now.inserts) result }
     ensures place { IfSome result (IsPlace table.now.inserts) }

@@ -24,10 +24,10 @@ use std::alloc::Global;
 use store::Store;
 use table::Table;
 
-/// What the newest entry of a user key up to a sequence, below `SEQUENCE_END`, put in this table of an edit: nothing
-/// where the table has no such entry, and `Some(None)` where it is a delete. The table's filter is asked before a data
-/// block is read. Corrupt, where the source hasn't this table; Unsupported as `Table::open`, and where a block has more
-/// than 2^30 bytes.
+/// Returns what the newest entry of a user key up to a sequence number, below `SEQUENCE_END`, put
+/// in this table of an edit. None: the table has no such entry. `Some(None)`: it is a delete. The
+/// table's filter is asked before a data block is read. Corrupt: the source hasn't this table.
+/// Unsupported: as `Table::open`, and if a block has more than 2^30 bytes.
 pub fn table_value<K: KeyOrder, S: Store>(
     alloc: Global,
     source: &mut Tables<K, S>,
@@ -40,15 +40,16 @@ pub fn table_value<K: KeyOrder, S: Store>(
     ensures carries { Carries K.cmp (Only placed.now.table.number) (seen_through S.facts source.old) (seen_through S.facts source.new) }
     ensures found { IfOk result (λ value. SaysOf K.cmp (seen_through S.facts source.old) (seen_through S.facts source.new)
         placed.now.table.number (λ file. HasValue K.cmp file key.now sequence value)) }
-    // Whatever the file holds beside: its filter denies the key, or this tell the blocks that a search comes to.
+    // Whatever the file holds beside: its filter denies the key, or this tell the blocks that a
+    // search comes to.
     ensures told { IfOk result (λ value. SaysOf K.cmp (seen_through S.facts source.old) (seen_through S.facts source.new)
         placed.now.table.number (TellsOfKey K.cmp placed.now key.now sequence value)) }
     ensures still { IsStill (S.facts source.old.store) (S.facts source.new.store) result }
-    // Where the table is open and its filter denies the key, no block is asked for.
+    // If the table is open and its filter denies the key, no block is asked for.
     ensures denied { (table : Opened) (file : List ℕ) → kept_table_at source.old.tables.tables placed.now.table.number ≡ Some table
         → IsFrame K.cmp file table.frame → IsDenied K.cmp table.frame key.now sequence
         → (source.new.store ≡ source.old.store) × (source.new.blocks ≡ source.old.blocks) }
-    // Corrupt only where the frame is damaged, or the search comes to a block that is none.
+    // Corrupt only if the frame is damaged, or the search comes to a block that is none.
     ensures torn { IfErr result (λ e. IfCorrupt e (SaysOf K.cmp (seen_through S.facts source.old) (seen_through S.facts source.new)
         placed.now.table.number (λ file. IsFrameDamaged K.cmp file ⊎ TornOfKey K.cmp placed.now key.now sequence file))) }
     ensures refused { IfErr result (λ e. Refuses e (S.facts source.old.store) (S.facts source.new.store)
@@ -71,8 +72,9 @@ pub fn table_value<K: KeyOrder, S: Store>(
     }
 }
 
-// Whether no block from this one on has an entry of the user key: its filter says so of the block, and its bound, which
-// the key isn't above, of those behind.
+// Whether no block from this one on has an entry of the user key. The filter denies the key for
+// this block. Its bound has another user key, a greater one, so the later blocks can't have the key
+// either.
 fn is_denied<K: KeyOrder>(table: &Table<K>, start: usize, key: &[u8]) -> bool
     ensures { MatchBool result (DeniesKey table.now.frame start key.now) (DeniesKey table.now.frame start key.now → ⊥) }
 {
@@ -91,7 +93,8 @@ fn is_denied<K: KeyOrder>(table: &Table<K>, start: usize, key: &[u8]) -> bool
     true
 }
 
-// What the entry at a cursor's place put, where it is one of the user key. Corrupt, where its key is no internal key.
+// What the entry at a cursor's place put, if it is one of the user key. Corrupt: its key is no
+// internal key.
 fn value_at<K: KeyOrder>(
     alloc: Global,
     cursor: &BlockCursor<Internal<K>>,

@@ -17,8 +17,9 @@ use std::rc::Rc;
 use store::Store;
 use table::Table;
 
-/// A cursor over the table of a version edit, which it keeps for the keys at its ends. It holds the table open for its index, and has one data block at a time, which it
-/// shares with the cache. A move beyond the block reads the next one beside it, and changes nothing where that is refused.
+/// Holds a cursor over the table of a version edit, which it keeps for the keys at its ends. It
+/// holds the table open for its index, and has one data block at a time, which it shares with the
+/// cache. A move beyond the block reads the next one beside it, and changes nothing if that fails.
 #[derive(Drop)]
 pub struct TableCursor<K: KeyOrder> {
     placed: PlacedTable,
@@ -46,7 +47,8 @@ impl<K: KeyOrder> TableCursor<K> {
     ghost use Rattle.table.specs.Reading.{IsStill};
     ghost use Rattle.table.specs.Refusals.{IsFrameDamaged, IsFrameUnsupported};
 
-    /// A cursor over this table of an edit, which is opened. It stands nowhere. Corrupt and Unsupported as `Table::open`.
+    /// Opens this table of an edit, and makes a cursor over it. It stands nowhere. Corrupt and
+    /// Unsupported as `Table::open`.
     pub fn open<S: Store>(
         alloc: Global,
         source: &mut Tables<K, S>,
@@ -75,7 +77,7 @@ impl<K: KeyOrder> TableCursor<K> {
         })
     }
 
-    /// Stands on the first entry, or nowhere where there is none.
+    /// Moves to the first entry, or nowhere if there is none.
     pub fn to_first<S: Store>(
         &mut self,
         alloc: Global,
@@ -98,7 +100,7 @@ impl<K: KeyOrder> TableCursor<K> {
         Ok(())
     }
 
-    /// Stands on the last entry, or nowhere where there is none.
+    /// Moves to the last entry, or nowhere if there is none.
     pub fn to_last<S: Store>(
         &mut self,
         alloc: Global,
@@ -122,7 +124,8 @@ impl<K: KeyOrder> TableCursor<K> {
         Ok(())
     }
 
-    /// Stands on the first entry whose internal key isn't below the target, an internal key, or nowhere where there is none.
+    /// Moves to the first entry whose internal key isn't below the target, an internal key, or
+    /// nowhere if there is none.
     pub fn to_key<S: Store>(
         &mut self,
         alloc: Global,
@@ -149,7 +152,8 @@ impl<K: KeyOrder> TableCursor<K> {
         Ok(())
     }
 
-    /// Steps to the pair behind, where there is one; else it stays where it stands, and the answer is false.
+    /// Steps to the next pair, if there is one; else it stays where it stands, and the answer is
+    /// false.
     pub fn step<S: Store>(
         &mut self,
         alloc: Global,
@@ -182,7 +186,8 @@ impl<K: KeyOrder> TableCursor<K> {
         }
     }
 
-    /// Steps to the pair in front, where there is one; else it stays where it stands, and the answer is false.
+    /// Steps to the pair before, if there is one; else it stays where it stands, and the answer is
+    /// false.
     pub fn step_back<S: Store>(
         &mut self,
         alloc: Global,
@@ -324,7 +329,8 @@ impl<K: KeyOrder, S: Store> Cursor<K, Tables<K, S>> for TableCursor<K> {
     ghost leaves_more = { λ fewer more old new less k. carries_more K.cmp _ _ less k };
 }
 
-// One step on within the block. On its last pair nothing moves, and the answer is the index of the block behind.
+// One step on within the block. On its last pair nothing moves, and the answer is the index of the
+// next block.
 fn step_on<K: KeyOrder>(
     here: &mut Option<InBlock<BlockCursor<Internal<K>>>>,
 ) -> Result<Option<usize>, AllocError>
@@ -344,7 +350,8 @@ fn step_on<K: KeyOrder>(
     Ok(Some(here.index + 1))
 }
 
-// One step back within the block. On its first pair nothing moves, and the answer is the index of the block.
+// One step back within the block. On its first pair nothing moves, and the answer is the index of
+// the block.
 fn step_back<K: KeyOrder>(
     here: &mut Option<InBlock<BlockCursor<Internal<K>>>>,
 ) -> Result<Option<usize>, AllocError>

@@ -10,8 +10,9 @@ ghost use Rattle.table.specs.Frame.{Frame, IsFrame};
 
 use ikey::KeyOrder;
 
-/// Law: what a table's filter or its blocks tell of a key is what the key has in each list that the table may be, and so in the one that it
-/// was before it was damaged, where that had the blocks that are intact.
+/// Proves that what a table's filter or its blocks tell of a key is what the key has in each list
+/// that the table may be. So it holds of the table before it was damaged, if that had the blocks
+/// that are intact.
 pub fn told_for_all<K: KeyOrder>()
     ensures { (placed : PlacedTable) (file : List ℕ) (frame : Frame) (entries : List InternalEntry) (key : List ℕ) (sequence : ℕ) (value : Option (Option (List ℕ)))
         → IsFrame K.cmp file frame → MayHave K.cmp placed file frame entries → TellsOfKey K.cmp placed key sequence value file

@@ -26,7 +26,7 @@ use std::rc::Rc;
 use store::Store;
 use table::Table;
 
-/// What a search on looks for.
+/// Tells what a search on looks for.
 #[derive(Clone, Copy)]
 pub enum Aim<'a> {
     /// The first pair.
@@ -35,8 +35,9 @@ pub enum Aim<'a> {
     From(&'a [u8]),
 }
 
-/// Looks on from a block for a pair: the block that has it, and a cursor there. Corrupt, where it comes to a block
-/// that is none; Unsupported there, or where a block has more than 2^30 bytes.
+/// Looks on from a block for a pair: the block that has it, and a cursor there. Corrupt: it comes
+/// to a block that is none. Unsupported: it comes to such a block, or to one of more than 2^30
+/// bytes.
 pub fn search_on<K: KeyOrder, S: Store>(
     alloc: Global,
     source: &mut Tables<K, S>,
@@ -51,11 +52,12 @@ pub fn search_on<K: KeyOrder, S: Store>(
         → HasData K.cmp (seen_through S.facts source.old) placed.now table.now.frame groups → start ≤ length groups
         → (place : ℕ) × StopsAt (Passed K.cmp aim.entry) (joined groups) (pairs_before groups start) place
         × IsPlacedIn groups here (within_list (joined groups) place)) }
-    // Whatever the table holds beside: the blocks in front of the one that is found are passed, and it stands on its first pair that isn't.
+    // Whatever the table holds beside: the blocks before the one that is found are passed, and it
+    // stands on its first pair that isn't.
     ensures came { IfOk result (λ here. SaysOf K.cmp (seen_through S.facts source.old) (seen_through S.facts source.new) placed.now.table.number
         (λ file. IsFrame K.cmp file table.now.frame → CameHere K.cmp (Passed K.cmp aim.entry) placed.now file table.now.frame start here)) }
     ensures stands { IfOk result (λ here. IfSome here (λ found. IsSome found.cursor.place)) }
-    // Corrupt only where the search comes to a block that is none.
+    // Corrupt only if the search comes to a block that is none.
     ensures torn { IfErr result (λ e. IfCorrupt e (SaysOf K.cmp (seen_through S.facts source.old) (seen_through S.facts source.new)
         placed.now.table.number (λ file. IsFrame K.cmp file table.now.frame
         → StopsTorn K.cmp (Passed K.cmp aim.entry) placed.now file table.now.frame start))) }
@@ -74,7 +76,7 @@ pub fn search_on<K: KeyOrder, S: Store>(
     Ok(None)
 }
 
-/// Looks for the last pair of the blocks in front of one. Corrupt and Unsupported as `search_on`.
+/// Looks for the last pair of the blocks before one. Corrupt and Unsupported as `search_on`.
 pub fn search_back<K: KeyOrder, S: Store>(
     alloc: Global,
     source: &mut Tables<K, S>,
@@ -127,8 +129,9 @@ fn enter<K: KeyOrder>(
     }
 }
 
-// The data block of this index, held against its place when it comes from the store, and against the edit where it is the first or the
-// last. Such a one is looked at each time: what is kept of a table doesn't know its edit.
+// The data block of this index. It is checked against its place when it comes from the store. The
+// first and the last one are checked against the edit each time: what is kept of a table doesn't
+// know its edit.
 fn read_index<K: KeyOrder, S: Store>(
     alloc: Global,
     source: &mut Tables<K, S>,
@@ -140,7 +143,8 @@ fn read_index<K: KeyOrder, S: Store>(
     ensures carries { Carries K.cmp (Only placed.now.table.number) (seen_through S.facts source.old) (seen_through S.facts source.new) }
     ensures found { IfOk result (λ block. IsTrue (S.facts source.new.store).faithful → (groups : List (List Pair))
         → HasData K.cmp (seen_through S.facts source.old) placed.now table.now.frame groups → slice_get groups index ≡ Some block.value.pairs) }
-    // Whatever the table holds beside, the block is whole and in its place, and where it is an end, it has the edit's key there.
+    // Whatever the table holds beside, the block is whole and in its place, and if it is an end, it
+    // has the edit's key there.
     ensures intact { IfOk result (λ block. SaysOf K.cmp (seen_through S.facts source.old) (seen_through S.facts source.new)
         placed.now.table.number (HasIntactIn K.cmp placed.now table.now.frame index block.value.pairs)) }
     ensures torn { IfErr result (λ e. IfCorrupt e (SaysOf K.cmp (seen_through S.facts source.old) (seen_through S.facts source.new)

@@ -12,11 +12,11 @@ use std::rc::Rc;
 use store::Store;
 use table::Table;
 
-// How many tables stay open: LevelDB's `max_open_files`, 1000, less ten for its other files (db/db_impl.cc,
-// `TableCacheSize`).
+// How many tables stay open: LevelDB's `max_open_files`, 1000, less ten for its other files
+// (db/db_impl.cc, `TableCacheSize`).
 const OPEN_TABLES: usize = 990;
 
-/// A store, with the tables that stay open and the blocks that were read.
+/// Holds a store, with the tables that stay open and the blocks that were read.
 #[derive(Drop)]
 pub struct Tables<K: KeyOrder, S> {
     pub store: S,
@@ -34,7 +34,8 @@ impl<K: KeyOrder, S: Store> Tables<K, S> {
     ghost use Rattle.table.specs.Reading.{HasFile};
     ghost use Rattle.table.specs.Refusals.{IsFrameDamaged, IsFrameUnsupported};
 
-    /// This store, of which nothing is kept: no table stays open and no block in memory, until `begin`.
+    /// Wraps this store, and keeps nothing of it: no table stays open and no block in memory, until
+    /// `begin`.
     pub fn over(store: S) -> Self
         ensures store { result.store ≡ store }
         ensures tables { result.tables.tables ≡ [] }
@@ -48,7 +49,8 @@ impl<K: KeyOrder, S: Store> Tables<K, S> {
         }
     }
 
-    /// Begins to keep what is read: at most 990 open tables, and so many blocks. Nothing that was kept before stays.
+    /// Begins to keep what is read: at most 990 open tables, and so many blocks. Nothing that was
+    /// kept before stays.
     pub fn begin(&mut self, alloc: Global, blocks: NonZeroUsize) -> Result<(), AllocError>
         ensures store { self.new.store ≡ self.old.store }
         ensures tables { OnOk result (self.new.tables.tables ≡ []) }
@@ -66,7 +68,7 @@ impl<K: KeyOrder, S: Store> Tables<K, S> {
         Ok(())
     }
 
-    /// Keeps nothing any more: what was kept is let go, and nothing is kept until `begin`.
+    /// Releases what was kept, and keeps nothing until `begin`.
     pub fn end(&mut self)
         ensures store { self.new.store ≡ self.old.store }
         ensures tables { self.new.tables.tables ≡ [] }
@@ -77,13 +79,13 @@ impl<K: KeyOrder, S: Store> Tables<K, S> {
         self.blocks = BlockCache::none();
     }
 
-    /// The open table of this number, as `TableCache::get_table`.
+    /// Returns the open table of this number, as `TableCache::get_table`.
     pub fn get_table(&mut self, alloc: Global, number: u64) -> Result<Rc<Table<K>>, DbError>
         requires { 0 < number }
         ensures carries { Carries K.cmp (Only number) (seen_through S.facts self.old) (seen_through S.facts self.new) }
         ensures found { IfOk (table_answer_of result) (λ table. SaysOf K.cmp (seen_through S.facts self.old) (seen_through S.facts self.new)
             number (λ file. HasFile (S.facts self.new.store) table.name file × IsOpenFrame K.cmp file table.frame)) }
-        // Where the table is kept it is answered, and the store isn't asked.
+        // If the table is kept it is answered, and the store isn't asked.
         ensures hit { IfSome (kept_table_at self.old.tables.tables number)
             (λ table. HitsTable table (table_answer_of result) × (self.new.store ≡ self.old.store)) }
         ensures blocks { self.new.blocks ≡ self.old.blocks }
@@ -95,7 +97,8 @@ impl<K: KeyOrder, S: Store> Tables<K, S> {
         self.tables.get_table(alloc, &mut self.store, number)
     }
 
-    /// The data block of an index of the table of this number, as `get_table` and `BlockCache::read_block`.
+    /// Returns the data block of an index of the table of this number, as `get_table` and
+    /// `BlockCache::read_block`.
     pub fn read_block(
         &mut self,
         alloc: Global,
@@ -118,17 +121,18 @@ impl<K: KeyOrder, S: Store> Tables<K, S> {
     }
 }
 
-/// Law: where nothing is kept, all that is kept is right.
+/// Proves that if nothing is kept, all that is kept is right.
 pub fn empty_is_sound()
     ensures { EmptyIsSound }
 {}
 
-/// Law: what is kept stays right while tables are written under numbers of which nothing is kept, and while tables are removed.
+/// Proves that what is kept stays right while tables are written under numbers of which nothing is
+/// kept, and while tables are removed.
 pub fn sound_lasts()
     ensures { SoundLasts }
 {}
 
-/// Law: what is kept stays right while the files of tables stay.
+/// Proves that what is kept stays right while the files of tables stay.
 pub fn sound_stays()
     ensures { SoundStays }
 {}

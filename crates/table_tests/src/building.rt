@@ -94,8 +94,9 @@ fn the_old_file_is_emptied_and_others_stay(rt: HostRuntime) -> Result<(), Fail> 
 
 // ---- sizes
 
-// The first entry of a block has 13 bytes here, and so has each other one; behind them stand 8. An ended block has
-// five more. So large are three entries, one after another, where blocks are ended by so many bytes.
+// The first entry of a block has 13 bytes here, and so has each other one; 8 follow them. An ended
+// block has five more. So large are three entries, one after another, if blocks are ended by so
+// many bytes.
 const SIZES: [(usize, [u64; 3]); 6] = [
     (1, [26, 52, 78]),
     (21, [26, 52, 78]),
@@ -212,8 +213,9 @@ fn finds_each(
     Ok(true)
 }
 
-// None of the keys is this number or above. The keys that are asked for differ from them in more than the last byte:
-// in a filter of 64 bits two keys of four bytes that differ in that one alone have the same bits.
+// None of the keys is this number or above. The keys that are asked for differ from them in more
+// than the last byte. In a filter of 64 bits two keys of four bytes that differ in that one alone
+// have the same bits.
 const ELSEWHERE: u32 = 1 << 24;
 
 // Whether the filter admits the key of a number in the block of the entry with this index.
@@ -233,7 +235,8 @@ fn admits(
     }
 }
 
-// Of how many entries the filter admits a key in their block: the first number, and so many more for each entry.
+// Of how many entries the filter admits a key in their block: the first number, and so many more
+// for each entry.
 fn admitted(
     table: &Table<Bytewise>,
     handles: &[Handle],
@@ -251,7 +254,8 @@ fn admitted(
     admitted
 }
 
-// Whether the index has so many blocks, and the filter admits each key in its block and denies nine of ten others.
+// Whether the index has so many blocks, and the filter admits each key in its block and denies nine
+// of ten others.
 fn is_filtered(
     alloc: Global,
     table: &Table<Bytewise>,
@@ -292,8 +296,8 @@ fn is_table(alloc: Global, case: &Case) -> Result<bool, DbError> {
     is_read(alloc, &mut store, &entries, case)
 }
 
-// The first of 16 entries has 18 bytes, each other one 15 or 16, a restart 4, and what counts the restarts 4: so 6
-// entries are the first with 100 bytes, and 265 with 4096.
+// The first of 16 entries has 18 bytes, each other one 15 or 16, a restart point 4, and their count
+// 4. So 6 entries are the first with 100 bytes, and 265 with 4096.
 const TABLES: [Case; 12] = [
     (1, 1, 1, 1),
     (1, 1, 2, 2),
@@ -445,7 +449,7 @@ fn a_table_is_in_the_order_of_its_keys(rt: HostRuntime) {
 
 // ---- failures
 
-// Writes the table of three odd numbers, a block each: 31 bytes a block, and the rest behind them.
+// Writes the table of three odd numbers, a block each: 31 bytes a block, and the rest after them.
 fn write_three<S: Store>(alloc: Global, store: &mut S) -> Result<u64, DbError> {
     let entries = odd_entries(alloc, 3)?;
     write::<Bytewise, S>(alloc, store, NAME, 1, &entries)
@@ -464,8 +468,9 @@ fn failing(alloc: Global, call: u64, count: usize) -> Result<FaultStore, StoreEr
     Ok(FaultStore::new(inner, Some(Plan { call, fault })))
 }
 
-// What is left of a table of three odd numbers, a block each, where the call of this number writes so many bytes and
-// fails. The first call creates the file, the next three append a block each, and the fifth appends the rest.
+// What is left of a table of three odd numbers, a block each, where the call of this number writes
+// so many bytes and fails. The first call creates the file, the next three append a block each, and
+// the fifth appends the rest.
 fn after_failure(alloc: Global, call: u64, count: usize) -> Option<MemStore> {
     let mut store = failing(alloc, call, count).ok()?;
     match write_three(alloc, &mut store) {

@@ -11,7 +11,8 @@ use store::{FaultStore, MemStore, Store, StoreError};
 use table::Table;
 use table_access::Tables;
 
-// A store that counts its calls: table 5 has one entry, and table 7, under its old name, two blocks.
+// A store that counts its calls: table 5 has one entry, and table 7, under its old name, two
+// blocks.
 fn two_tables(alloc: Global) -> Result<FaultStore, DbError> {
     match both(alloc) {
         Ok(store) => Ok(FaultStore::new(store, None)),
@@ -51,8 +52,8 @@ fn first_value(alloc: Global, block: Rc<Block<Internal<Bytewise>>>) -> Option<u8
     cursor.value().first().copied()
 }
 
-// A block that is asked for: its table's number, its place, the value of its first entry, or none where it is refused;
-// whether the store is asked for it, and how many blocks are kept behind that.
+// A block that is asked for: its table's number, its place, the value of its first entry, or none
+// if it fails. Then whether the store is asked for it, and how many blocks are kept after that.
 struct Fetch {
     number: u64,
     index: usize,
@@ -193,8 +194,8 @@ fn a_kept_block_is_not_read_again(rt: HostRuntime) {
 
 // ---- tables
 
-// A table that is asked for, by its number; how many blocks it has, or none where it is missing; whether the store is asked for it; and
-// whether it is evicted then.
+// A table that is asked for, by its number; how many blocks it has, or none if it is missing;
+// whether the store is asked for it; whether it is evicted then.
 type Opening = (u64, Option<usize>, bool, bool);
 
 // In a cache of one table.
@@ -260,7 +261,8 @@ fn a_kept_table_is_not_opened_again(rt: HostRuntime) {
     assert_eq!(rt; keeps_tables(rt.alloc()), Ok(true));
 }
 
-// What is done to the tables of a store: to begin to keep what is read, to end that, or to read the first block of table 5.
+// What is done to the tables of a store: to begin to keep what is read, to end that, or to read the
+// first block of table 5.
 #[derive(Clone, Copy)]
 enum Turn {
     Begin,
@@ -268,7 +270,7 @@ enum Turn {
     Read,
 }
 
-// Each turn; whether the store is asked, and how many tables and how many blocks are kept behind it.
+// Each turn; whether the store is asked, and how many tables and how many blocks are kept after it.
 #[rattlefmt::skip]
 const TURNS: [(Turn, bool, usize); 10] = [
     (Turn::Read, true, 0), (Turn::Read, true, 0),

@@ -52,7 +52,8 @@ fn is_needed(puts: &[Put], snapshots: &[u64], deeper: Deeper, put: Put) -> bool 
         && (put.kind == Kind::Put || deeper.has(put.key) || hides_a_put(puts, snapshots, put))
 }
 
-// What happened under the sequence: nothing, a put or a delete of `a`, a put or a delete of `b`.
+// What happened under the sequence number: nothing, a put or a delete of `a`, a put or a delete of
+// `b`.
 fn put_of(case: u32, sequence: u64) -> Option<Put> {
     let (key, kind) = match case {
         1 => (b'a', Kind::Put),
@@ -76,7 +77,8 @@ fn push(puts: &mut Vec<Put>, key: u8, digit: u32, sequence: u64) -> Result<(), A
     }
 }
 
-// The versions of a key, the newest first: the digits of the case to the base 5 say what happened under each sequence.
+// The versions of a key, the newest first: the digits of the case to the base 5 say what happened
+// under each sequence number.
 fn push_puts(puts: &mut Vec<Put>, case: u32, key: u8) -> Result<(), AllocError> {
     push(puts, key, case / 125 % 5, 4)?;
     push(puts, key, case / 25 % 5, 3)?;
@@ -150,7 +152,7 @@ fn chooses(
     Ok(true)
 }
 
-// Each set of sequences up to 4 that has 4.
+// Each set of sequence numbers up to 4 that has 4.
 #[rattlefmt::skip]
 const SNAPSHOTS: [&[u64]; 16] = [
     &[4], &[0, 4], &[1, 4], &[0, 1, 4], &[2, 4], &[0, 2, 4], &[1, 2, 4], &[0, 1, 2, 4],

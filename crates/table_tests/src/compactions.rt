@@ -236,7 +236,7 @@ const INPUTS: [TableRow; 3] = [
     TableRow(1, 5, 176, b"b", 1, b"d", 1),
 ];
 
-// The internal key of put(d) at sequence 1.
+// The internal key of put(d) at sequence number 1.
 const POINTER: &[u8] = b"d\x01\x01\0\0\0\0\0\0";
 
 // From levels 1 and 2 to level 2.
@@ -254,7 +254,8 @@ fn plan(alloc: Global) -> Result<JobPlan, AllocError> {
 
 type TestJob = Job<Bytewise, Inputs>;
 
-// How many entries are left behind a step, where it says how much it merged, and whether that was the end.
+// How many entries are left after a step, if it says how much it merged, and whether that was the
+// end.
 fn left_behind<S: Store + Drop>(
     alloc: Global,
     job: &mut TestJob,
@@ -424,7 +425,7 @@ fn jobs_write_what_must_be_kept(rt: HostRuntime) {
 
 #[rattlefmt::skip]
 const REFUSED: [(Case, u64, DbError); 5] = [
-    // Entries that don't rise, and two of one sequence.
+    // Entries that don't rise, and two of one sequence number.
     (Case { inputs: &[&[OLD_A, NEW_A]], count: 2, snapshots: &[9], deeper: NO_DEEPER, file_bytes: 1, tables: &[] }, 9, DbError::Corrupt(FileKind::Table, Damage::Order)),
     (Case { inputs: &[&[NEW_A], &[NEW_A]], count: 2, snapshots: &[9], deeper: NO_DEEPER, file_bytes: 1, tables: &[] }, 9, DbError::Corrupt(FileKind::Table, Damage::Order)),
     (Case { inputs: &[&[NEW_B, NEW_A]], count: 2, snapshots: &[9], deeper: NO_DEEPER, file_bytes: 1, tables: &[] }, 9, DbError::Corrupt(FileKind::Table, Damage::Order)),
@@ -447,7 +448,7 @@ fn refusals_say_why(rt: HostRuntime) {
     }
 }
 
-// A store with an input's file, whose call of this number fails, an append behind three bytes.
+// A store with an input's file, whose call of this number fails, an append after three bytes.
 fn failing(alloc: Global, call: u64) -> Result<FaultStore, StoreError> {
     let mut files = MemStore::new(alloc);
     files.create("000004.ldb")?;
@@ -460,8 +461,8 @@ fn keeps_input(alloc: Global, store: &mut MemStore) -> bool {
     matches!(store.read_at(alloc, "000004.ldb", 0, 9), Ok(bytes) if bytes.as_slice() == b"in".as_slice())
 }
 
-// Whether a job is refused whose store fails at the call of this number, and leaves its inputs; None where it does
-// anything else.
+// Whether a job is refused whose store fails at the call of this number, and leaves its inputs;
+// None where it does anything else.
 fn fails_at(alloc: Global, case: &Case, call: u64) -> Option<bool> {
     let store = failing(alloc, call).ok()?;
     let mut source = Alone { store };

@@ -62,7 +62,8 @@ const TURNS: [Turn; 24] = [
     Turn::Seek(b"f", 0, PUT), Turn::Last, Turn::Next,
 ];
 
-// What a walk at sequence 8 shows after each turn: a user key and a value. The deletes hide `a` and `b`, and `e` is too new.
+// What a walk at sequence number 8 shows after each turn: a user key and a value. The deletes hide
+// `a` and `b`, and `e` is too new.
 #[rattlefmt::skip]
 const SHOWN: [(Turn, Option<(&[u8], u8)>); 19] = [
     (Turn::First, Some((b"ba", 2))), (Turn::Next, Some((b"c", 0))), (Turn::Prev, Some((b"ba", 2))), (Turn::Next, Some((b"c", 0))),
@@ -186,7 +187,7 @@ fn walks_to(
     Ok(shows(visible, store, shown))
 }
 
-// The first turn of a walk over the merge behind which something else is shown.
+// The first turn of an iteration over the merge after which something else is shown.
 fn shown_elsewhere(alloc: Global) -> Result<Option<usize>, DbError> {
     let mut store = MemStore::new(alloc);
     let mut visible = Visible::new(alloc, merge_of(alloc)?, 8);

@@ -56,7 +56,7 @@ fn second_edit(alloc: Global) -> Result<Edit, DbError>
     Ok(edit)
 }
 
-// Both edits, one behind the other, and where the last one ends.
+// Both edits, one after the other, and where the last one ends.
 fn put_both<S: Store>(alloc: Global, store: &mut S) -> Result<u64, DbError> {
     let manifest = manifest_at(alloc, 0)?;
     let end = append_edit(alloc, store, &manifest, &first_edit(alloc)?)?;
@@ -75,7 +75,8 @@ fn edits_stand_behind_the_manifest(rt: HostRuntime) {
     assert!(rt; are_behind(rt.alloc(), &mut MemStore::new(rt.alloc())));
 }
 
-// The number of the append that fails, how many bytes it writes, and what of the MANIFEST is there then.
+// The number of the append that fails, how many bytes it writes, and what of the MANIFEST is there
+// then.
 const FAILURES: &[(u64, usize, &[u8])] = &[
     (2, 0, b""),
     (2, 3, b"\xfa\x99\x70"),
@@ -84,7 +85,7 @@ const FAILURES: &[(u64, usize, &[u8])] = &[
     (4, 11, BOTH),
 ];
 
-// A store with an empty file of this name, whose call of this number fails behind so many bytes.
+// A store with an empty file of this name, whose call of this number fails after so many bytes.
 fn failing(alloc: Global, name: &str, call: u64, count: usize) -> Result<FaultStore, StoreError> {
     let fault = Fault::Fail(Extent::Part(count));
     let mut store = FaultStore::new(MemStore::new(alloc), Some(Plan { call, fault }));
@@ -155,8 +156,8 @@ fn no_log_has_a_number_beyond_the_last(rt: HostRuntime) {
 
 const FLUSH_MANIFEST: &str = "MANIFEST-000002";
 
-// The log number is 3, the next file number 5 and the last sequence 1, and the table 4 of 176 bytes at level 0 has the key `61`
-// at sequence 1; then the same behind a previous log.
+// The log number is 3, the next file number 5 and the last sequence number 1. The table 4 of 176
+// bytes at level 0 has the key `61` at sequence number 1. Then the same after a previous log.
 const FLUSH_EDITS: &[(u64, &[u8])] = &[
     (
         0,
@@ -172,7 +173,7 @@ const FLUSH_EDITS: &[(u64, &[u8])] = &[
 const FLUSHED: &[u8] =
     b"\xe8\x99\xd3\x40\x1f\x00\x01\x02\x03\x03\x05\x04\x01\x07\x00\x04\xb0\x01\x09a\x01\x01\x00\x00\x00\x00\x00\x00\x09a\x01\x01\x00\x00\x00\x00\x00\x00";
 
-// A memory table in which `61` is put as `31`.
+// A memtable in which `61` is put as `31`.
 fn sealed(alloc: Global) -> Result<MemTable<Bytewise>, AllocError>
     ensures some { IfOk result (λ memory. 0 < length memory.inserts) }
     ensures sequences { IfOk result (λ memory. HaveSequences memory.inserts) }
@@ -213,8 +214,8 @@ const PLAN: FlushPlan = FlushPlan {
     block_bytes: 4096,
 };
 
-// Flushes it behind an empty MANIFEST into a version without tables, with the next number of these. The answer is where the
-// MANIFEST ends, and whether the new version has the table 4.
+// Flushes it after an empty MANIFEST into a version without tables, with the next number of these.
+// The answer is where the MANIFEST ends, and whether the new version has the table 4.
 fn flushes<S: Store>(
     alloc: Global,
     store: &mut S,
@@ -248,7 +249,8 @@ fn a_flush_makes_a_table_and_its_edit(rt: HostRuntime) {
     assert!(rt; is_flushed(rt.alloc(), &mut MemStore::new(rt.alloc())));
 }
 
-// The number of the append that fails, of a block, of what stands behind the blocks or of the edit, and how the flush is refused.
+// The number of the append that fails, of a block, of what follows the blocks or of the edit, and
+// how the flush fails.
 const REFUSALS: &[(u64, FlushError)] = &[
     (3, FlushError::Before(DbError::Io)),
     (4, FlushError::Before(DbError::Io)),
@@ -296,8 +298,9 @@ impl LiveTables for Tables {
     }
 }
 
-// The names of all files, the numbers of the MANIFEST, the first log and one more log, the tables in use, those that aren't or have both
-// names, once for each of their files, and the names that stay, in order and each ended by a semicolon.
+// The names of all files; the numbers of the MANIFEST, the first log and one more log; the tables
+// in use. Then those that aren't or have both names, once for each of their files, and the names
+// that stay, in order and each ended by a semicolon.
 struct Case {
     names: &'static [&'static str],
     numbers: (u64, u64, u64),
@@ -325,7 +328,7 @@ fn make_all(alloc: Global, names: &[&str]) -> Result<MemStore, StoreError> {
     Ok(store)
 }
 
-// Whether all that isn't live is gone, and these tables are to be closed.
+// Whether all that is obsolete is gone, and these tables must be closed.
 fn is_whole(removal: &Removal, unused: &[u64]) -> bool {
     removal.complete && removal.tables.as_slice() == unused
 }

@@ -1,5 +1,6 @@
-// Drawn moves over merges of drawn lists, and over what of them is visible at a sequence, beside a sorted list and a place in it;
-// and how many moves of the lists' cursors those of a merge take.
+// Drawn moves over merges of drawn lists, and over what of them is visible at a sequence number,
+// beside a sorted list and a place in it. Also how many moves of the lists' cursors those of a
+// merge take.
 ghost use Rattle.std.specs.Prelude.{◌≡◌, true, OnOk};
 ghost use Rattle.cursor.specs.Walks.{value_at_hand};
 
@@ -112,7 +113,8 @@ impl<K: KeyOrder, S: Store> Cursor<K, Counted<S>> for CountedCursor<K> {
     ghost leaves_more = { λ fewer more old new less k. tt };
 }
 
-// ---- entries by their numbers, which rise as the keys do: three sequences of each user key, the newest first
+// ---- entries by their numbers, which rise as the keys do: three sequence numbers of each user
+// key, the newest first
 
 const NUMBERS: u8 = 60;
 
@@ -192,7 +194,8 @@ fn numbers_of(alloc: Global, owners: &[u8], first: u8, end: u8) -> Result<Vec<u8
     Ok(numbers)
 }
 
-// Those that are visible at sequence 8: of each user key the newest but the first, where that isn't a delete.
+// Those that are visible at sequence number 8: of each user key the newest but the first, where
+// that isn't a delete.
 fn visible_of(alloc: Global, numbers: &[u8]) -> Result<Vec<u8>, AllocError> {
     let mut visible = Vec::new(alloc);
     let mut decided = None;
@@ -232,7 +235,7 @@ fn merge_of(alloc: Global, owners: &[u8], lists: u8) -> Result<Merged, AllocErro
 
 // ---- moves of the plain list
 
-// The index, where the list has it.
+// The index, if the list has it.
 fn within(numbers: &[u8], index: usize) -> Option<usize> {
     if index < numbers.len() {
         return Some(index);
@@ -294,7 +297,7 @@ fn step<C: Cursor<Bytewise, Source>>(
     }
 }
 
-// Whether the cursor stands on the entry of this number, or nowhere where there is none.
+// Whether the cursor stands on the entry of this number, or nowhere if there is none.
 fn is_at<C: Cursor<Bytewise, Source>>(
     cursor: &C,
     alloc: Global,
@@ -314,7 +317,7 @@ fn is_at<C: Cursor<Bytewise, Source>>(
     )
 }
 
-// Whether all cursors stand ahead of the merge's entry behind this turn, and not behind it.
+// Whether all cursors stand ahead of the merge's entry after this turn, and not behind it.
 fn leads_ahead(turn: Turn) -> bool {
     match turn {
         Turn::First => true,
@@ -359,7 +362,8 @@ impl Beside {
         })
     }
 
-    // A step in the direction of the last turn moves the one cursor that it leaves, any other turn each of them.
+    // A step in the direction of the last turn moves the one cursor that it leaves, any other turn
+    // each of them.
     fn most_moves(&self, turn: Turn) -> u64 {
         if is_step(turn) && leads_ahead(turn) == self.is_ahead {
             return 1;
@@ -367,7 +371,8 @@ impl Beside {
         u64::from(self.lists)
     }
 
-    // Takes the turn, and answers whether the merge stands where the list does then, and moved as few cursors as it can.
+    // Takes the turn, and answers whether the merge stands where the list does then, and moved as
+    // few cursors as it can.
     fn take(&mut self, alloc: Global, turn: Turn) -> Result<bool, DbError> {
         let most = self.source.moves.saturating_add(self.most_moves(turn));
         step(&mut self.merge, alloc, &mut self.source, turn)?;

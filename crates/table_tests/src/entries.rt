@@ -9,10 +9,11 @@ use table::{KeyValue, Table, TableBuilder};
 /// An entry: a user key, a sequence number, a kind and a value.
 pub type Row = (&'static [u8], u64, Kind, &'static [u8]);
 
-/// A user key and a sequence, and how many entries stand before the newest of the key up to the sequence.
+/// Holds a user key and a sequence number, and how many entries come before the newest of the key
+/// up to the sequence number.
 pub type Seek = (&'static [u8], u64, usize);
 
-/// An internal key. A sequence past the largest is the test's fault, and no line.
+/// Makes an internal key. A sequence number past the largest is the test's fault, and no line.
 pub fn key(alloc: Global, user: &[u8], sequence: u64, kind: Kind) -> Result<Bytes, DbError> {
     if sequence >= SEQUENCE_END {
         return Err(DbError::BadLine);
@@ -20,7 +21,7 @@ pub fn key(alloc: Global, user: &[u8], sequence: u64, kind: Kind) -> Result<Byte
     Ok(Bytes::from_vec(pack(alloc, user, sequence, kind)?))
 }
 
-/// An entry with its internal key.
+/// Makes an entry with its internal key.
 pub fn entry(
     alloc: Global,
     user: &[u8],
@@ -54,7 +55,8 @@ pub fn add<K: KeyOrder, S: Store>(
     builder.add(store, entry.key.as_slice(), entry.value.as_slice())
 }
 
-/// Writes the table of entries into the file of this name, and answers its length. There is at least one entry.
+/// Writes the table of entries into the file of this name, and answers its length. There is at
+/// least one entry.
 pub fn write<K: KeyOrder, S: Store>(
     alloc: Global,
     store: &mut S,
@@ -85,7 +87,7 @@ fn are_same(a: &[KeyValue], b: &[KeyValue]) -> bool {
     a.len() == b.len()
 }
 
-/// Whether these are the entries.
+/// Returns whether these are the entries.
 pub fn is_listed(alloc: Global, found: &[KeyValue], rows: &[Row]) -> Result<bool, DbError> {
     let wanted = entries_of(alloc, rows)?;
     Ok(are_same(found, &wanted))
@@ -99,7 +101,8 @@ fn is_found(found: &Option<KeyValue>, wanted: Option<&KeyValue>) -> bool {
     }
 }
 
-/// Whether a seek of the newest version of a key up to a sequence finds the entry of this place.
+/// Returns whether a seek of the newest version of a key up to a sequence number finds the entry of
+/// this place.
 pub fn finds<K: KeyOrder, S: Store>(
     alloc: Global,
     table: &Table<K>,
@@ -128,7 +131,7 @@ fn finds_all<K: KeyOrder, S: Store>(
     Ok(true)
 }
 
-/// Whether the table has these entries, as they are listed and as they are checked.
+/// Returns whether the table has these entries, as they are listed and as they are checked.
 pub fn lists<K: KeyOrder, S: Store>(
     alloc: Global,
     table: &Table<K>,
@@ -141,7 +144,7 @@ pub fn lists<K: KeyOrder, S: Store>(
     )
 }
 
-/// Whether the table in the store has these entries, and each seek finds its own.
+/// Returns whether the table in the store has these entries, and each seek finds its own.
 pub fn reads_as<K: KeyOrder, S: Store>(
     alloc: Global,
     store: &mut S,

@@ -5,7 +5,7 @@ use store::{MemStore, Store, StoreError};
 /// The name of their file.
 pub const NAME: &str = "000005.ldb";
 
-/// A table with the one entry of user key `61`, sequence 1, put `31`.
+/// A table with the one entry of user key `61`, sequence number 1, put `31`.
 pub const ONE_ENTRY: [u8; 176] = [
     0x00, 0x09, 0x01, 0x61, 0x01, 0x01, 0x00, 0x00, 0x00, 0x00, 0x00, 0x00, 0x31, 0x00, 0x00, 0x00,
     0x00, 0x01, 0x00, 0x00, 0x00, 0x00, 0x82, 0x7E, 0xF9, 0x3A, 0x08, 0x10, 0x20, 0x40, 0x80, 0x00,
@@ -20,8 +20,8 @@ pub const ONE_ENTRY: [u8; 176] = [
     0x00, 0x00, 0x00, 0x00, 0x00, 0x00, 0x00, 0x00, 0x57, 0xFB, 0x80, 0x8B, 0x24, 0x75, 0x47, 0xDB,
 ];
 
-/// A table with the entries `61` at 1 and `63` at 2, in a block each. Between the two stands the index key of user key
-/// `62` and the highest sequence.
+/// A table with the entries `61` at 1 and `63` at 2, in a block each. Between the two stands the
+/// index key of user key `62` and the highest sequence number.
 pub const SEPARATED: [u8; 220] = [
     0x00, 0x09, 0x01, 0x61, 0x01, 0x01, 0x00, 0x00, 0x00, 0x00, 0x00, 0x00, 0x31, 0x00, 0x00, 0x00,
     0x00, 0x01, 0x00, 0x00, 0x00, 0x00, 0x82, 0x7E, 0xF9, 0x3A, 0x00, 0x09, 0x01, 0x63, 0x01, 0x02,
@@ -53,14 +53,14 @@ pub const NO_FILTER: [u8; 158] = [
     0x00, 0x00, 0x00, 0x00, 0x00, 0x00, 0x57, 0xFB, 0x80, 0x8B, 0x24, 0x75, 0x47, 0xDB,
 ];
 
-/// What is put behind the data block of the table of one entry, and whether the block isn't supported then: type 1 with the checksum of
-/// type 0, which is damage, and with its own.
+/// Lists what is put after the data block of the table of one entry, and whether the block isn't
+/// supported then. Type 1 with the checksum of type 0 is damage; with its own it isn't supported.
 pub const OF_TYPE_ONE: [([u8; 5], bool); 2] = [
     ([1, 0x82, 0x7E, 0xF9, 0x3A], false),
     ([1, 0x55, 0x62, 0xF4, 0x40], true),
 ];
 
-/// A store with a file of these bytes.
+/// Makes a store with a file of these bytes.
 pub fn store_with(alloc: Global, bytes: &[u8]) -> Result<MemStore, StoreError> {
     let mut store = MemStore::new(alloc);
     store.create(NAME)?;
@@ -68,7 +68,7 @@ pub fn store_with(alloc: Global, bytes: &[u8]) -> Result<MemStore, StoreError> {
     Ok(store)
 }
 
-/// A store with the table of one entry, but for these bytes in the place of those between two offsets.
+/// Makes a store with the table of one entry, but with these bytes between two offsets.
 pub fn changed(
     alloc: Global,
     from: usize,

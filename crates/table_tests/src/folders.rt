@@ -173,7 +173,7 @@ fn first_wrong_beside(
     Ok(first_wrong_turn(rt.alloc(), store, &mut other))
 }
 
-// Whether two stores take their turns, and the first one goes on behind them.
+// Whether two stores take their turns, and the first one goes on after them.
 fn take_turns(rt: &HostRuntime, folder: &str) -> Result<bool, StoreError> {
     let mut store = FileStore::open(rt, folder)?;
     let beside = first_wrong_beside(rt, folder, &mut store)?;
@@ -338,7 +338,7 @@ fn are_made(alloc: Global, store: &mut FileStore) -> bool {
     true
 }
 
-// Behind the name of each of some files.
+// After the name of each of some files.
 const APPENDED: &[Row] = &[
     (Step::Append("000000.ldb", b"+"), Ok(true)),
     (Step::Reads("000000.ldb", 10, 100, b"+"), Ok(true)),
@@ -348,8 +348,9 @@ const APPENDED: &[Row] = &[
     (Step::Reads("001099.ldb", 10, 100, b"+"), Ok(true)),
 ];
 
-// How many more descriptors are open, once many files were made and each was read twice, rising: so each is opened again,
-// however many of the others stay open. None where one isn't read as it was written.
+// How many more descriptors are open, once many files were made and each was read twice, rising: so
+// each is opened again, however many of the others stay open. None where one isn't read as it was
+// written.
 fn kept_open(rt: &HostRuntime, folder: &str) -> Result<Option<usize>, Fail> {
     let before = open_descriptors(rt)?;
     let mut store = FileStore::open(rt, folder)?;

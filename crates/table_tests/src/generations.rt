@@ -1,4 +1,5 @@
-//! The memory tables of an open database: the current one, the sealed one and those that are kept for readers.
+//! The memtables of an open database: the current one, the sealed one and those that are kept
+//! for readers.
 
 ghost use Rattle.std.specs.Prelude.{◌≡◌, IfOk};
 
@@ -14,16 +15,16 @@ use std::test::*;
 // A user key, and what is put, or nothing for a delete.
 type Write = (&'static [u8], Option<&'static [u8]>);
 
-// A user key, a sequence, and what is found of the key there.
+// A user key, a sequence number, and what is found of the key there.
 type Found = (&'static [u8], u32, Option<Option<&'static [u8]>>);
 
 // An internal key and a value.
 type Pair = (&'static [u8], &'static [u8]);
 
-// Sequences 1 to 3.
+// Sequence numbers 1 to 3.
 const FIRST: [Write; 3] = [(b"b", Some(b"two")), (b"a", Some(b"one")), (b"c", None)];
 
-// Sequences 4 and 5.
+// Sequence numbers 4 and 5.
 const SECOND: [Write; 2] = [(b"b", None), (b"d", Some(b"four"))];
 
 const WHILE_SEALED: [Found; 8] = [
@@ -130,7 +131,7 @@ fn shows(
     Ok(!cursor.stands())
 }
 
-// The same from the first place, and from the one in front of the last.
+// The same from the first place, and from the one before the last.
 fn shows_from_its_ends(
     cursor: &mut MemoriesCursor<Bytewise>,
     alloc: Global,
@@ -159,7 +160,8 @@ fn shows_what_is_sought(
     shows(cursor, alloc, memories, pairs)
 }
 
-// Whether a cursor over the table of a generation up to a sequence walks over these pairs, of which the second is of `b`.
+// Whether a cursor over the table of a generation up to a sequence number walks over these pairs,
+// of which the second is of `b`.
 fn walks(
     memories: &mut MemoryTables<Bytewise>,
     alloc: Global,
@@ -193,8 +195,8 @@ fn reads_on(memories: &mut MemoryTables<Bytewise>, alloc: Global) -> Result<bool
     Ok(shows(&mut cursor, alloc, memories, &FIRST_PAIRS)? && memories.generation() == 0)
 }
 
-// The size of the current table, the last sequence, the generation of the current table, and that of the sealed one with how many
-// entries it has.
+// The size of the current table, the last sequence number, the generation of the current table, and
+// that of the sealed one with how many entries it has.
 type Counts = (usize, u64, u64, Option<(u64, usize)>);
 
 fn sealed_is(memories: &MemoryTables<Bytewise>, wanted: Option<(u64, usize)>) -> bool {
@@ -217,7 +219,7 @@ fn counts(memories: &MemoryTables<Bytewise>, wanted: &Counts) -> bool {
         && sealed_is(memories, sealed)
 }
 
-// What is done to memory tables, or asked of them.
+// What is done to memtables, or asked of them.
 #[derive(Clone, Copy)]
 enum Turn {
     Write(&'static [Write]),
@@ -228,7 +230,7 @@ enum Turn {
     Use(u64),
     Forget(u64),
     Finds(&'static [Found]),
-    // a cursor over the table of a generation up to a sequence walks over these pairs
+    // a cursor over the table of a generation up to a sequence number walks over these pairs
     Walks(u64, u32, &'static [Pair; 2]),
     Misses(u64),
     // not so
@@ -304,13 +306,14 @@ const SCRIPTS: [&[Turn]; 4] = [
     &[
         Turn::Write(&FIRST), Turn::Seal, Turn::Write(&SECOND), Turn::Walks(0, 2, &FIRST_PAIRS), Turn::Walks(1, 5, &SECOND_PAIRS),
     ],
-    // The sealed table stays although nobody reads it, a flushed one stays for its reader, and then goes.
+    // The sealed table stays although nobody reads it, a flushed one stays for its reader, and then
+    // goes.
     &[
         Turn::Write(&FIRST), Turn::Seal, Turn::Write(&SECOND), Turn::Use(7), Turn::Forget(0), Turn::Walks(0, 2, &FIRST_PAIRS),
         Turn::Flushed, Turn::Seal, Turn::Flushed, Turn::Use(0), Turn::Walks(0, 2, &FIRST_PAIRS), Turn::Misses(1),
         Turn::Forget(0), Turn::Misses(0), Turn::Has(2),
     ],
-    // A seal is taken back, but not one behind which something is written.
+    // A seal is taken back, but not one after which something is written.
     &[
         Turn::Write(&FIRST), Turn::ReadsOn, Turn::Seal, Turn::Write(&SECOND), Turn::Unseal, Turn::Finds(&WHILE_SEALED),
     ],

@@ -12,7 +12,8 @@ use versions::Version;
 
 const PUT: Kind = Kind::Put;
 
-// Two tables of level 0, of which the newer one stands behind the older, and one of each of two deeper levels.
+// Two tables of level 0, of which the newer one comes after the older, and one of each of two
+// deeper levels.
 #[rattlefmt::skip]
 const FILES: [File; 4] = [
     ("000005.ldb", &[(b"a", 20, PUT, b"\x01"), (b"c", 21, Kind::Delete, b"\0"), (b"cc", 22, PUT, b"\x09")]),
@@ -28,7 +29,7 @@ const PLACES: [TableRow; 4] = [
     TableRow(2, 3, 1, b"e", 1, b"f", 2),
 ];
 
-// A user key and a sequence, and what the newest entry put, or that it is a delete.
+// A user key and a sequence number, and what the newest entry put, or that it is a delete.
 #[rattlefmt::skip]
 const GETS: [(&[u8], u32, Option<Option<&[u8]>>); 13] = [
     (b"a", 40, Some(Some(b"\x02"))), (b"a", 29, Some(Some(b"\x01"))), (b"a", 19, Some(Some(b"\x04"))), (b"a", 1, None),

@@ -34,7 +34,7 @@ const PLACES: [TableRow; 4] = [
     TableRow(1, 7, 1, b"g", 5, b"h", 5),
 ];
 
-/// A source that reads them, and has no memory.
+/// Makes a source that reads them, and has no memory.
 pub fn source_of(alloc: Global) -> Result<Sources<Bytewise, FaultStore>, DbError> {
     Ok(Sources {
         tables: cached(alloc, counted(alloc, &FILES, 1)?, 4, 1)?,
@@ -42,7 +42,7 @@ pub fn source_of(alloc: Global) -> Result<Sources<Bytewise, FaultStore>, DbError
     })
 }
 
-/// The version that has them.
+/// Returns the version that has them.
 pub fn version_over(alloc: Global) -> Result<Rc<Version<Bytewise>>, DbError> {
     Ok(Rc::new(alloc, version_of(alloc, &PLACES, None)?)?)
 }

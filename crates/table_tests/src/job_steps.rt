@@ -13,7 +13,7 @@ use std::test::*;
 use store::{FaultStore, Store};
 use versions::{JobPlan, Version, plans_of_tables};
 
-// The sequences whose views are to be kept.
+// The sequence numbers whose views must be kept.
 const SNAPSHOTS: [u64; 1] = [5];
 
 // The file of the edits.

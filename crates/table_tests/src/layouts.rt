@@ -7,7 +7,7 @@ use ikey::{Bytewise, Kind, pack};
 use std::alloc::{AllocError, Global};
 use versions::Version;
 
-/// A table by its level, number and size, its first user key and sequence, and its last.
+/// A table by its level, number and size, its first user key and sequence number, and its last.
 #[derive(Clone, Copy)]
 pub struct TableRow(
     pub u32,
@@ -19,7 +19,7 @@ pub struct TableRow(
     pub u32,
 );
 
-/// A level, and the user key and the sequence of its compact pointer.
+/// A level, and the user key and the sequence number of its compact pointer.
 pub type Pointer = (u32, &'static [u8], u32);
 
 pub fn key_of(alloc: Global, user: &[u8], sequence: u32) -> Result<Bytes, AllocError> {
@@ -90,7 +90,7 @@ pub fn layout_of(
     })
 }
 
-/// The version of these tables, which can stand in one.
+/// Returns the version of these tables, which can stand in one.
 pub fn version_of(
     alloc: Global,
     rows: &[TableRow],

@@ -1,4 +1,4 @@
-//! Tests of stores, tables, memory tables, cursors, versions, caches and compactions.
+//! Tests of stores, tables, memtables, cursors, versions, caches and compactions.
 #![tactic(auto)]
 
 #[cfg(test)]

@@ -1,4 +1,4 @@
-//! Cursors over memory tables.
+//! Cursors over memtables.
 
 use crate::entries::{Row, entry};
 use crate::memory_tables::add;
@@ -55,7 +55,7 @@ const TURNS: [Turn; 31] = [
     Turn::Seek(b"c", 9, PUT), Turn::Seek(b"c", 1, PUT), Turn::Seek(b"", 0, DELETE), Turn::Seek(b"e", 0, PUT),
 ];
 
-// What a cursor up to sequence 8 has at hand after each turn.
+// What a cursor up to sequence number 8 has at hand after each turn.
 #[rattlefmt::skip]
 const AT_HAND: [(Turn, Option<Pair>); 10] = [
     (Turn::First, Some((b"\x01\x06\0\0\0\0\0\0", b"empty"))),
@@ -70,7 +70,7 @@ const AT_HAND: [(Turn, Option<Pair>); 10] = [
     (Turn::Seek(b"d", 20, PUT), None),
 ];
 
-// The pairs that are visible at sequence 8.
+// The pairs that are visible at sequence number 8.
 const SHOWN: [Pair; 4] = [
     (b"", b"empty"),
     (b"b", b""),
@@ -86,7 +86,7 @@ fn table_of(alloc: Global) -> Result<MemTable<Bytewise>, AllocError> {
     Ok(table)
 }
 
-// The entries up to a sequence.
+// The entries up to a sequence number.
 fn pairs_up_to(alloc: Global, limit: u32) -> Result<Vec<KeyValue>, DbError> {
     let mut pairs = Vec::new(alloc);
     for (user, sequence, kind, value) in ENTRIES {
@@ -97,7 +97,8 @@ fn pairs_up_to(alloc: Global, limit: u32) -> Result<Vec<KeyValue>, DbError> {
     Ok(pairs)
 }
 
-// Whether a turn leads a cursor to where it leads one over the list, and a newer entry is added then.
+// Whether a turn leads a cursor to where it leads one over the list, and a newer entry is added
+// then.
 fn agrees_beside(
     cursor: &mut MemoryCursor<Bytewise>,
     alloc: Global,
@@ -110,7 +111,8 @@ fn agrees_beside(
     Ok(is_so)
 }
 
-// Whether a cursor up to this sequence walks as one over the list does, while newer entries are added.
+// Whether a cursor up to this sequence number walks as one over the list does, while newer entries
+// are added.
 fn walks_as_list(alloc: Global, limit: u32) -> Result<bool, DbError> {
     let mut table = table_of(alloc)?;
     let mut list = ListCursor::new(pairs_up_to(alloc, limit)?);
@@ -135,7 +137,8 @@ fn a_cursor_walks_as_the_list_of_what_is_seen(rt: HostRuntime) {
     kept_for_all_is_same::<Bytewise>();
 }
 
-// The first turn behind which a cursor up to sequence 8 has something else at hand than what is listed above.
+// The first turn after which a cursor up to sequence number 8 has something else at hand than what
+// is listed above.
 fn elsewhere(alloc: Global) -> Result<Option<usize>, DbError> {
     let mut table = table_of(alloc)?;
     let mut cursor = MemoryCursor::new(alloc, 8);
@@ -147,7 +150,7 @@ fn keys_and_values_are_at_hand(rt: HostRuntime) {
     assert_eq!(rt; elsewhere(rt.alloc()), Ok(None));
 }
 
-// Whether the next pair of a walk, or the first one, is this.
+// Whether the next pair of an iteration, or the first one, is this.
 fn shows<C: Cursor<Bytewise, MemTable<Bytewise>>>(
     walk: &mut Visible<Bytewise, C>,
     alloc: Global,
@@ -163,7 +166,7 @@ fn shows<C: Cursor<Bytewise, MemTable<Bytewise>>>(
     Ok(walk.stands() && walk.key() == key && walk.value(table) == value)
 }
 
-// Whether a walk at sequence 8 shows the pairs listed above.
+// Whether a walk at sequence number 8 shows the pairs listed above.
 fn shows_all(alloc: Global) -> Result<bool, DbError> {
     let mut table = table_of(alloc)?;
     let mut walk = Visible::new(alloc, MemoryCursor::new(alloc, 8), 8);

@@ -1,4 +1,5 @@
-//! Data blocks that aren't what their place in the index or their table's edit says, with checksums that fit.
+//! Data blocks that aren't what their place in the index or their table's edit says, with checksums
+//! that fit.
 
 use crate::files::NAME;
 use crate::layouts::TableRow;
@@ -11,8 +12,9 @@ use std::test::*;
 use store::{FaultStore, MemStore, Store, StoreError};
 use table_access::{TableCursor, Tables};
 
-// Tables without a filter, whose entries are puts at sequence 2: of `b` and `d` in one block, bounded by its last key; the same and one
-// of `f` and `h` behind it, which begins at 43. The first key of a block stands at its byte 3, the second at 16, the checksum at 39.
+// Tables without a filter, whose entries are puts at sequence number 2. One has `b` and `d` in one
+// block, bounded by its last key. The other has also `f` and `h` in a second block, which begins at
+// 43. The first key of a block stands at its byte 3, the second at 16, the checksum at 39.
 const ONE_BLOCK: [u8; 131] = [
     0x00, 0x09, 0x01, 0x62, 0x01, 0x02, 0x00, 0x00, 0x00, 0x00, 0x00, 0x00, 0x01, 0x00, 0x09, 0x01,
     0x64, 0x01, 0x02, 0x00, 0x00, 0x00, 0x00, 0x00, 0x00, 0x02, 0x00, 0x00, 0x00, 0x00, 0x0D, 0x00,
@@ -40,7 +42,8 @@ const TWO_BLOCKS: [u8; 192] = [
     0x00, 0x00, 0x00, 0x00, 0x00, 0x00, 0x00, 0x00, 0x57, 0xFB, 0x80, 0x8B, 0x24, 0x75, 0x47, 0xDB,
 ];
 
-// Tables of one entry, whose key and bound are no internal key: one of kind 2, and one of seven bytes.
+// Tables of one entry, whose key and bound are no internal key: one of kind 2, and one of seven
+// bytes.
 const OF_KIND_TWO: [u8; 114] = [
     0x00, 0x09, 0x01, 0x62, 0x02, 0x02, 0x00, 0x00, 0x00, 0x00, 0x00, 0x00, 0x01, 0x00, 0x00, 0x00,
     0x00, 0x01, 0x00, 0x00, 0x00, 0x00, 0x79, 0xB6, 0xD8, 0xA5, 0x00, 0x00, 0x00, 0x00, 0x01, 0x00,
@@ -62,10 +65,12 @@ const OF_SEVEN_BYTES: [u8; 110] = [
     0x00, 0x00, 0x00, 0x00, 0x00, 0x00, 0x57, 0xFB, 0x80, 0x8B, 0x24, 0x75, 0x47, 0xDB,
 ];
 
-// A turn of a cursor, and where it leads: to a pair or nowhere, or None where it is refused and the place stays.
+// A turn of a cursor, and where it leads: to a pair or nowhere, or None where it is refused and the
+// place stays.
 type Led = (Turn, Option<Option<Pair>>);
 
-// A user key, sought up to sequence 9, and its value or that it has none, or None where the get is refused.
+// A user key, sought up to sequence number 9, and its value or that it has none, or None where the
+// get is refused.
 type Got = (&'static [u8], Option<Option<Option<&'static [u8]>>>);
 
 // What a table answers.
@@ -108,7 +113,8 @@ const FIRST: Told = (
     &[(b"f", None), (b"h", None), (b"e", None), (b"b", Some(Some(Some(b"\x01")))), (b"d", Some(Some(Some(b"\x02")))), (b"c", Some(None))],
 );
 
-// A table, bytes that are put over others of it, each with its place, what its edit says, and what it answers then.
+// A table, bytes that are put over others of it, each with its place, what its edit says, and what
+// it answers then.
 type Case = (
     &'static [u8],
     &'static [(usize, &'static [u8])],
@@ -121,8 +127,9 @@ const OF_ONE: TableRow = TableRow(1, 5, 131, b"b", 2, b"d", 2);
 
 const OF_TWO: TableRow = TableRow(1, 5, 192, b"b", 2, b"h", 2);
 
-// Keys above the bound of their block; keys that don't lie above the bound in front; what is no internal key, in front, behind, and alone;
-// at the end the tables as they were, and keys that lie just inside: above no bound, and the next one above the bound in front.
+// Keys above the bound of their block, and keys that don't lie above the bound before. What is no
+// internal key: first, last, and alone. At the end the tables as they were, and keys that lie just
+// inside: above no bound, and the next one above the bound before.
 #[rattlefmt::skip]
 const CASES: [Case; 18] = [
     (&ONE_BLOCK, &[(16, b"d\x01\x01"), (39, b"\x20\x93\xe5H")], OF_ONE, NONE),
@@ -148,8 +155,9 @@ const CASES: [Case; 18] = [
     )),
 ];
 
-// End keys that their place in the index allows and the edit doesn't: the first key lower or higher, as bytes and by its sequence, then
-// the last one; and the same tables, over edits that say these keys, where they differ from what the others say.
+// End keys that their place in the index allows and the edit doesn't. The first key is lower or
+// higher, as bytes and by its sequence number; then the last one is. Then the same tables, over
+// edits that say these keys, if they differ from what the others say.
 #[rattlefmt::skip]
 const ENDS: [Case; 14] = [
     (&ONE_BLOCK, &[(3, b"a"), (39, b"\xb6\x19\x07\xd6")], OF_ONE, NONE),
@@ -264,7 +272,8 @@ fn gets_all(alloc: Global, source: &mut Source, row: &TableRow, gets: &[Got]) ->
     true
 }
 
-// Whether the table of a case answers as it should, read through a cache of one block, and through one of several.
+// Whether the table of a case answers as it should, read through a cache of one block, and through
+// one of several.
 fn is_told(alloc: Global, case: &Case, blocks: usize) -> Result<bool, DbError> {
     let (table, changes, row, (turns, gets)) = *case;
     let mut source = cached(alloc, crafted(alloc, table, changes)?, 1, blocks)?;

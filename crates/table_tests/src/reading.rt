@@ -103,7 +103,8 @@ fn filters_deny_keys_that_are_not_there(rt: HostRuntime) {
 
 // ---- damage
 
-// Whether the table of one entry, with these bytes in the place of those between two offsets, isn't opened, as damaged.
+// Whether the table of one entry, with these bytes in the place of those between two offsets, isn't
+// opened, as damaged.
 fn is_corrupt(alloc: Global, from: usize, to: usize, bytes: &[u8]) -> bool {
     match changed(alloc, from, to, bytes) {
         Ok(mut store) => matches!(opened(alloc, &mut store), Err(DbError::Corrupt(_, _))),
@@ -128,9 +129,10 @@ fn missing_tables_are_corrupt(rt: HostRuntime) {
     assert!(rt; is_missing(rt.alloc()));
 }
 
-// What stands from one offset to another, and whether the table is damaged by it: the handle of the metaindex in the place of that of
-// the index, so that blocks overlap; a byte of the zeros behind both; and the index with its place and its length, whose handle is that
-// of the block, is cut, or has a byte behind it.
+// What stands from one offset to another, and whether it damages the table. First the handle of the
+// metaindex replaces that of the index, so that blocks overlap. Then there is a byte among the
+// zeros after both. Then the index, with its place and its length, has a handle that is that of the
+// block, is cut, or has a byte after it.
 #[rattlefmt::skip]
 const FRAMES: [(usize, usize, &[u8], bool); 6] = [
     (130, 132, b"\x65\x16", false),
@@ -180,7 +182,8 @@ fn changed_bytes_give_no_wrong_entry(rt: HostRuntime) {
     }
 }
 
-// Whether the data block of the table with these bytes behind it is refused: as not supported, or as damaged.
+// Whether the data block of the table with these bytes after it is refused: as not supported, or as
+// damaged.
 fn is_refused(alloc: Global, behind: &[u8; 5], is_unsupported: bool) -> Result<bool, DbError> {
     let mut store = stored(changed(alloc, 21, 26, behind))?;
     let table = opened(alloc, &mut store)?;

@@ -39,7 +39,8 @@ const LEVEL_1: [TableRow; 3] = [
     TableRow(1, 6, 1, b"j", 5, b"l", 5),
 ];
 
-// Both ways from end to end, and seeks in front of, on, between and behind the keys, and between the tables.
+// Both ways from end to end, and seeks before, on, between and after the keys, and between the
+// tables.
 #[rattlefmt::skip]
 const TURNS: [Turn; 39] = [
     Turn::First, Turn::Next, Turn::Next, Turn::Next, Turn::Next, Turn::Next, Turn::Next,
@@ -121,7 +122,8 @@ fn the_tables_beside_the_row_are_not_of_it(rt: HostRuntime) {
     }
 }
 
-// Turns from nowhere, where each leads, and how many tables it opens. Behind the last key that is none.
+// Turns from nowhere, where each leads, and how many tables it opens. After the last key there is
+// none.
 const OPENED: [(Turn, Option<Pair>, usize); 6] = [
     (Turn::First, B, 1),
     (Turn::Last, L, 1),
@@ -160,7 +162,7 @@ fn mend(alloc: Global, store: &mut FaultStore) -> Result<u64, DbError> {
     write::<Bytewise, FaultStore>(alloc, store, "000005.ldb", 1, &entries)
 }
 
-// The table behind is gone, by which the place stays; where it is back, it is opened.
+// The next table is gone, by which the place stays; when it is back, it is opened.
 fn stays_at_a_gap(
     cursor: &mut RowCursor<Bytewise>,
     alloc: Global,

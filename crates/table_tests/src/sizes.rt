@@ -91,8 +91,8 @@ impl Store for Watched {
     }
 }
 
-// More bytes than the 176 of the file, up to more than is read of any, and the footer's handles that say so of the metaindex,
-// which begins the file. Behind it stands that of the index.
+// More bytes than the 176 of the file, up to more than is read of any, and the footer's handles
+// that say so of the metaindex, which begins the file. After it comes that of the index.
 #[rattlefmt::skip]
 const SIZES: [(u64, &[u8; 40]); 5] = [
     (172, b"\0\xac\x01\x65\x16\0\0\0\0\0\0\0\0\0\0\0\0\0\0\0\0\0\0\0\0\0\0\0\0\0\0\0\0\0\0\0\0\0\0\0"),
@@ -102,7 +102,8 @@ const SIZES: [(u64, &[u8; 40]); 5] = [
     (u64::MAX, b"\0\xff\xff\xff\xff\xff\xff\xff\xff\xff\x01\x65\x16\0\0\0\0\0\0\0\0\0\0\0\0\0\0\0\0\0\0\0\0\0\0\0\0\0\0\0"),
 ];
 
-// Whether the table of one entry with such a footer is refused, and no more than the footer was read.
+// Whether the table of one entry with such a footer is refused, and no more than the footer was
+// read.
 fn is_not_read(alloc: Global, handles: &[u8]) -> Result<bool, StoreError> {
     let inner = changed(alloc, 128, 168, handles)?;
     let mut store = Watched { inner, most: 0 };

@@ -23,7 +23,7 @@ pub enum Step<'a> {
     Names(&'a str),
 }
 
-/// A step, and what it answers.
+/// Holds a step, and what it answers.
 pub type Row = (Step<'static>, Result<bool, StoreError>);
 
 pub fn perform<S: Store>(alloc: Global, store: &mut S, step: Step<'_>) -> Result<bool, StoreError> {
@@ -45,7 +45,7 @@ pub fn perform<S: Store>(alloc: Global, store: &mut S, step: Step<'_>) -> Result
     }
 }
 
-/// Whether the step is done, and is so.
+/// Returns whether the step is done, and is so.
 pub fn does<S: Store>(alloc: Global, store: &mut S, step: Step<'_>) -> bool {
     matches!(perform(alloc, store, step), Ok(true))
 }
@@ -130,7 +130,7 @@ fn names<S: Store>(alloc: Global, store: &mut S) -> Result<String, StoreError> {
     Ok(joined)
 }
 
-/// The first step that answers otherwise, by its place.
+/// Returns the first step that answers otherwise, by its place.
 pub fn first_wrong<S: Store>(alloc: Global, store: &mut S, rows: &[Row]) -> Option<usize> {
     for (place, (step, wanted)) in rows.iter().enumerate() {
         if perform(alloc, store, *step) != *wanted {
@@ -140,8 +140,8 @@ pub fn first_wrong<S: Store>(alloc: Global, store: &mut S, rows: &[Row]) -> Opti
     None
 }
 
-/// Each call where it is done, a lock that is denied, reads from an offset to the smaller of their end and the file's, and each call
-/// at a name that no file has.
+/// Lists each call as it is done, a lock that is denied, reads from an offset to the smaller of
+/// their end and the file's, and each call at a name that no file has.
 pub const CALLS: &[Row] = &[
     (Step::Names(""), Ok(true)),
     (Step::Create("000001.dbtmp"), Ok(true)),
@@ -202,7 +202,7 @@ pub const CALLS: &[Row] = &[
     (Step::Names(""), Ok(true)),
 ];
 
-/// Files that are replaced, taken away and made again: nothing that they held comes back.
+/// Lists files that are replaced, removed and made again: nothing that they held comes back.
 pub const REPLACED: &[Row] = &[
     (Step::Create("a"), Ok(true)),
     (Step::Append("a", b"first"), Ok(true)),
@@ -281,7 +281,8 @@ fn a_copy_has_the_files_alone(rt: HostRuntime) {
 
 // ---- faults
 
-// How many bytes of `abc` come behind a log that has one, as a fault lets them, and what it has then.
+// How many bytes of `abc` are appended to a log that has one, as a fault lets them, and what it has
+// then.
 const PARTS: [(usize, &[u8]); 4] = [(2, b"-abf"), (3, b"-abcf"), (9, b"-abcf"), (0, b"-f")];
 
 const PARTLY: &[Row] = &[
@@ -292,7 +293,8 @@ const PARTLY: &[Row] = &[
     (Step::Sync("log"), Ok(true)),
 ];
 
-// Whether a store counts these calls, whose third is an append of so many bytes, and the log is this then.
+// Whether a store counts these calls, whose third is an append of so many bytes, and the log is
+// this then.
 fn writes_part(alloc: Global, count: usize, log: &[u8]) -> bool {
     let fault = Fault::Fail(Extent::Part(count));
     let mut store = FaultStore::new(MemStore::new(alloc), Some(Plan { call: 3, fault }));
@@ -307,8 +309,8 @@ fn a_fault_writes_a_part_of_its_append(rt: HostRuntime) {
     }
 }
 
-// A call that a fault hits, over the one file `a` that holds `first+`, and what it leaves of the files: where it isn't done,
-// where it is, where two bytes of an append are, and where locks are denied.
+// A call that a fault hits, over the one file `a` that holds `first+`. Then what it leaves of the
+// files: if it isn't done, if it is, if two bytes of an append are, and if locks are denied.
 struct Hit {
     step: Step<'static>,
     undone: &'static str,
@@ -380,7 +382,8 @@ fn acts(hit: &Hit, fault: Fault) -> bool {
     }
 }
 
-// Whether these are the files: each name with its bytes behind a sign, in order and each ended by a semicolon.
+// Whether these are the files: each name with its bytes after a sign, in order and each ended by a
+// semicolon.
 fn has_left(alloc: Global, store: &mut MemStore, wanted: &str) -> Result<bool, StoreError> {
     let mut names = store.list(alloc)?;
     names.sort()?;
@@ -403,7 +406,7 @@ fn faulty(alloc: Global, fault: Fault) -> Result<FaultStore, StoreError> {
     Ok(FaultStore::new(inner, Some(Plan { call: 2, fault })))
 }
 
-// Whether the call in front of the fault is done, and the one that it hits answers as it should.
+// Whether the call before the fault is done, and the one that it hits answers as it should.
 fn is_hit(alloc: Global, store: &mut FaultStore, hit: &Hit, fault: Fault) -> bool {
     does(alloc, store, Step::Append("a", b"+"))
         && perform(alloc, store, hit.step) == answer_of(hit, fault)
@@ -416,7 +419,7 @@ fn remains(alloc: Global, store: &FaultStore, wanted: &str) -> Result<bool, Stor
     Ok(has_left(alloc, &mut copy, wanted)? && copy.lock()?)
 }
 
-// The calls behind the one that was hit: all are done, or none, where it was a stop.
+// The calls after the one that was hit: all are done, or none if it was a process crash.
 const BEHIND: [Step<'static>; 4] = [
     Step::Lock,
     Step::Unlock,
@@ -515,7 +518,7 @@ fn copied(store: &MemStore) -> Result<MemStore, StoreError> {
     }
 }
 
-// How a step is refused for want of memory. A sync and a removal don't say so: they have failed.
+// How a step fails out of memory. A sync and a removal don't say so: they have failed.
 fn refusal(step: Step<'_>) -> StoreError {
     match step {
         Step::Sync(_) | Step::Remove(_) => StoreError::Device,
@@ -523,7 +526,7 @@ fn refusal(step: Step<'_>) -> StoreError {
     }
 }
 
-// Whether a step that was refused for want of memory changed nothing, and is done once more.
+// Whether a step that failed out of memory changed nothing, and is done once more.
 fn is_done_again(
     alloc: Global,
     before: &mut MemStore,

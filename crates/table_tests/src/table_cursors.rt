@@ -29,7 +29,7 @@ const ENTRIES: [Row; 8] = [
 // The table 5 of these.
 const FIVE: TableRow = TableRow(1, 5, 1, b"a", 9, b"g", 5);
 
-// Both ways from end to end, and seeks on, between and behind the keys.
+// Both ways from end to end, and seeks on, between and after the keys.
 #[rattlefmt::skip]
 const TURNS: [Turn; 42] = [
     Turn::First, Turn::Next, Turn::Next, Turn::Next, Turn::Next, Turn::Next, Turn::Next, Turn::Next, Turn::Next,
@@ -42,7 +42,8 @@ const TURNS: [Turn; 42] = [
 
 type Source = Tables<Bytewise, MemStore>;
 
-// A store with the table 5, whose blocks are ended by so many bytes, read through a cache of so many.
+// A store with the table 5, whose blocks are ended by so many bytes, read through a cache of so
+// many.
 fn table_of(alloc: Global, block_bytes: usize, blocks: usize) -> Result<Source, DbError> {
     cached(
         alloc,
@@ -95,8 +96,8 @@ const A9: Option<Pair> = Some((b"a\x01\x09\0\0\0\0\0\0", b"\x01"));
 
 const A4: Option<Pair> = Some((b"a\x00\x04\0\0\0\0\0\0", b"\0"));
 
-// Whether a turn is refused over the damage, by which the place stays, and leads on once that is mended. The first block has 21
-// bytes and its trailer 5, so that the damage is in the second.
+// Whether a turn is refused over the damage, by which the place stays, and leads on once that is
+// mended. The first block has 21 bytes and its trailer 5, so that the damage is in the second.
 fn stays_at_damage(
     cursor: &mut TableCursor<Bytewise>,
     alloc: Global,
@@ -144,7 +145,7 @@ fn are_refused(alloc: Global, store: MemStore, is_unsupported: bool) -> Result<b
     Ok(is_refusal(&walked, is_unsupported) && is_refusal(&found, is_unsupported))
 }
 
-// The same of the table of one entry with these bytes behind its data block.
+// The same of the table of one entry with these bytes after its data block.
 fn is_refused(alloc: Global, behind: &[u8; 5], is_unsupported: bool) -> bool {
     match changed(alloc, 21, 26, behind) {
         Ok(store) => are_refused(alloc, store, is_unsupported) == Ok(true),
@@ -177,7 +178,7 @@ fn a_missing_table_is_corrupt(rt: HostRuntime) {
 
 // ---- look-ups
 
-// A user key and a sequence, and what the newest entry put, or that it is a delete.
+// A user key and a sequence number, and what the newest entry put, or that it is a delete.
 #[rattlefmt::skip]
 const VALUES: [(&[u8], u32, Option<Option<&[u8]>>); 14] = [
     (b"a", 9, Some(Some(b"\x01"))), (b"a", 8, Some(None)), (b"a", 4, Some(None)), (b"a", 3, None),

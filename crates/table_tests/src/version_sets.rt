@@ -19,7 +19,7 @@ enum Look {
     // the tables of a level, by their numbers
     Level(u32, &'static [u64]),
     All(&'static [u64]),
-    // the one table of a level in which a user key and a sequence are sought
+    // the one table of a level in which a user key and a sequence number are sought
     Found(u32, &'static [u8], u32, Option<u64>),
     // the next table in which that is sought, from a place on, and its place
     Searched(&'static [u8], u32, usize, Option<(u64, usize)>),
@@ -29,7 +29,8 @@ enum Look {
     Covered(u32, &'static [u8], bool),
     // the user key of a level's compact pointer
     Points(u32, Option<&'static [u8]>),
-    // the compaction that is wanted, where level 0 is full with so many files, and level 1 with so many bytes
+    // the compaction that is wanted, where level 0 is full with so many files, and level 1 with so
+    // many bytes
     Picks(u64, u64, Option<Plan>),
     // the compaction of a level, or of all
     PlansLevel(u32, Option<Plan>),
@@ -254,7 +255,7 @@ const CASES: [Case; 16] = [
         None,
         &[Look::Picks(2, 1, Some((&[8, 9, 2, 3, 4], 1, None)))],
     ),
-    // Compactions begin behind the pointer.
+    // Compactions begin after the pointer.
     (&LEVEL_2, None, &[Look::Picks(4, 23, Some((&[11], 3, Some(b"b")))), Look::Picks(2, 24, None)]),
     (&LEVEL_2, Some((2, b"a", 1)), &[Look::Picks(4, 23, Some((&[11], 3, Some(b"b"))))]),
     (
@@ -359,7 +360,7 @@ fn compaction(alloc: Global) -> Result<Edit, AllocError> {
     Ok(edit)
 }
 
-// The version behind it, where the edit fits.
+// The version after it, if the edit fits.
 fn compacted(alloc: Global, version: &Version<Bytewise>) -> Result<Version<Bytewise>, DbError> {
     let edit = compaction(alloc)?;
     match version.after(alloc, edit.fields()) {

@@ -1,4 +1,4 @@
-//! Turns of cursors, and what is at hand behind them.
+//! Turns of cursors, and what is at hand after them.
 
 use coding::DbError;
 use cursor::{Cursor, ListCursor};
@@ -7,7 +7,7 @@ use std::alloc::Global;
 use store::MemStore;
 use table::KeyValue;
 
-/// A move of a cursor. One on from a place, or back, is none where there is no place.
+/// Names a move of a cursor. One on from a place, or back, is none if there is no place.
 #[derive(Clone, Copy)]
 pub enum Turn {
     First,
@@ -48,7 +48,7 @@ pub fn step<S, C: Cursor<Bytewise, S>>(
     }
 }
 
-/// The key and the value at a cursor's place.
+/// Returns the key and the value at a cursor's place.
 pub fn at_hand<'a, S, C: Cursor<Bytewise, S>>(
     cursor: &'a C,
     source: &'a S,
@@ -59,7 +59,7 @@ pub fn at_hand<'a, S, C: Cursor<Bytewise, S>>(
     Some((cursor.key(source), cursor.value(source)))
 }
 
-/// Whether a turn leads to this key and this value, or to no place.
+/// Returns whether a turn leads to this key and this value, or to no place.
 pub fn leads_to<S, C: Cursor<Bytewise, S>>(
     cursor: &mut C,
     alloc: Global,
@@ -71,7 +71,7 @@ pub fn leads_to<S, C: Cursor<Bytewise, S>>(
     Ok(at_hand(cursor, source) == wanted)
 }
 
-/// The first turn that leads elsewhere, by its place.
+/// Returns the first turn that leads elsewhere, by its place.
 pub fn first_elsewhere<S, C: Cursor<Bytewise, S>>(
     cursor: &mut C,
     alloc: Global,
@@ -86,7 +86,7 @@ pub fn first_elsewhere<S, C: Cursor<Bytewise, S>>(
     Ok(None)
 }
 
-/// Whether a turn leads a cursor to where it leads one over a list.
+/// Returns whether a turn leads a cursor to where it leads one over a list.
 pub fn agrees<S, C: Cursor<Bytewise, S>>(
     cursor: &mut C,
     alloc: Global,
@@ -100,7 +100,8 @@ pub fn agrees<S, C: Cursor<Bytewise, S>>(
     Ok(at_hand(cursor, source) == at_hand(list, &none))
 }
 
-/// The first turn that leads a cursor elsewhere than one over the list of these pairs, by its place.
+/// Returns the first turn that leads a cursor elsewhere than one over the list of these pairs, by
+/// its place.
 pub fn first_apart<S, C: Cursor<Bytewise, S>>(
     cursor: &mut C,
     alloc: Global,

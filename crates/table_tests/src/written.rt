@@ -24,7 +24,7 @@ fn put_file(
     write::<Bytewise, MemStore>(alloc, store, file.0, block_bytes, &entries)
 }
 
-/// A store with these tables.
+/// Makes a store with these tables.
 pub fn stored(alloc: Global, files: &[File], block_bytes: usize) -> Result<MemStore, DbError> {
     let mut store = MemStore::new(alloc);
     for file in files {
@@ -33,12 +33,13 @@ pub fn stored(alloc: Global, files: &[File], block_bytes: usize) -> Result<MemSt
     Ok(store)
 }
 
-/// The same, of which calls are counted from then on.
+/// Returns the same, of which calls are counted from then on.
 pub fn counted(alloc: Global, files: &[File], block_bytes: usize) -> Result<FaultStore, DbError> {
     Ok(FaultStore::new(stored(alloc, files, block_bytes)?, None))
 }
 
-/// A store that is read through caches of so many tables and so many blocks, which is more than none.
+/// Makes a store that is read through caches of so many tables and so many blocks, which is more
+/// than none.
 pub fn cached<S: Store + Drop>(
     alloc: Global,
     store: S,
@@ -55,7 +56,7 @@ pub fn cached<S: Store + Drop>(
     Ok(source)
 }
 
-/// Whether what was found of a key is this: nothing, a delete or a put of these bytes.
+/// Returns whether what was found of a key is this: nothing, a delete or a put of these bytes.
 pub fn is_value(found: &Option<Option<Bytes>>, wanted: Option<Option<&[u8]>>) -> bool {
     match (found, wanted) {
         (None, None) => true,
@@ -65,7 +66,7 @@ pub fn is_value(found: &Option<Option<Bytes>>, wanted: Option<Option<&[u8]>>) ->
     }
 }
 
-/// A cursor over a table, whose number isn't 0.
+/// Opens a cursor over a table, whose number isn't 0.
 pub fn opened<S: Store>(
     alloc: Global,
     source: &mut Tables<Bytewise, S>,
@@ -78,7 +79,7 @@ pub fn opened<S: Store>(
     TableCursor::open(alloc, source, &placed)
 }
 
-/// What the newest entry of a user key up to a sequence put in such a table.
+/// Returns what the newest entry of a user key up to a sequence number put in such a table.
 pub fn value_in<S: Store>(
     alloc: Global,
     source: &mut Tables<Bytewise, S>,

@@ -50,11 +50,13 @@ abbrev pub SaysOfAll : Order → Seen → Seen → List PlacedTable → List ℕ
 SaysOfAll order old new tables key sequence value =
     IsTrue new.facts.faithful → (contents : List TableContent) → HasTablesOf order old tables contents → IsAnswer (joined (table_sources contents)) sequence key value
 
--- what is kept is right, and as far as their blocks tell the files may be the tables of the version, with these contents
+-- what is kept is right, and as far as their blocks tell the files may be the tables of the
+-- version, with these contents
 abbrev pub MayHaveTablesOf : Order → Seen → List PlacedTable → List TableContent → Type 0
 MayHaveTablesOf order source tables contents = IsSound order.cmp source × MayHaveVersion (MayBeTable order.cmp) order source.facts.files tables contents
 
--- of a faithful store, this is what all contents say of the key that the tables of the version may have
+-- of a faithful store, this is what all contents say of the key that the tables of the version may
+-- have
 abbrev pub SaysOfEach : Order → Seen → Seen → List PlacedTable → List ℕ → ℕ → Option (Option (List ℕ)) → Type 0
 SaysOfEach order old new tables key sequence value =
     IsTrue new.facts.faithful → (contents : List TableContent) → MayHaveTablesOf order old tables contents → IsAnswer (joined (table_sources contents)) sequence key value

@@ -1,4 +1,5 @@
-//! The newest entry of a user key in the tables of a version (LevelDB's db/version_set.cc, Version::Get).
+//! The newest entry of a user key in the tables of a version (LevelDB's db/version_set.cc,
+//! Version::Get).
 
 ghost use Rattle.std.specs.Prelude.{◌≡◌, ◌<◌, ◌^◌, ◌+◌, length, IfOk, IfErr};
 ghost use Rattle.cursor.specs.Moves.{Refuses};
@@ -17,10 +18,10 @@ use store::Store;
 use table_access::{Tables, table_value, told_for_all};
 use versions::Version;
 
-/// What the newest entry of a user key up to a sequence, below `SEQUENCE_END`, put in the tables of a version: nothing
-/// where they have no such entry, and `Some(None)` where it is a delete. Level 0 is searched from the newest table down,
-/// then each deeper level, and the first table that has such an entry ends the search. Corrupt, where the source hasn't
-/// these tables; Unsupported as `table_value`.
+/// Returns what the newest entry of a user key up to a sequence number, below `SEQUENCE_END`, put
+/// in the tables of a version. None: they have no such entry. `Some(None)`: it is a delete. Level 0
+/// is searched from the newest table down, then each deeper level; the first table that has such an
+/// entry ends the search. Corrupt: the source hasn't these tables. Unsupported: as `table_value`.
 pub fn value_in_tables<K: KeyOrder, S: Store>(
     alloc: Global,
     source: &mut Tables<K, S>,
@@ -31,15 +32,18 @@ pub fn value_in_tables<K: KeyOrder, S: Store>(
     requires { sequence < 2 ^ 56 }
     ensures carries { Carries K.cmp (λ number. HasNumber number version.now.tables) (seen_through S.facts source.old)
         (seen_through S.facts source.new) }
-    // Whichever contents the tables may have, as far as their blocks tell; and so those that they have.
+    // Whichever contents the tables may have, as far as their blocks tell; and so those that they
+    // have.
     ensures may { IfOk result (λ value. SaysOfEach (order_of K.name K.cmp) (seen_through S.facts source.old) (seen_through S.facts source.new)
         version.now.tables key.now sequence value) }
     ensures found { IfOk result (λ value. SaysOfAll (order_of K.name K.cmp) (seen_through S.facts source.old) (seen_through S.facts source.new)
         version.now.tables key.now sequence value) }
-    // Whatever their files hold beside: the first of the tables that tells anything of the key, in the order of the search, tells this.
+    // Whatever their files hold beside: the first of the tables, in the order of the search, that
+    // tells anything of the key tells this.
     ensures told { IfOk result (λ value. TablesTell K.cmp (seen_through S.facts source.old) (seen_through S.facts source.new)
         version.now.tables key.now sequence value) }
-    // Corrupt only over a table that the search comes to, and in it over its frame or over a block that the search comes to.
+    // Corrupt only over a table that the search comes to, and in it over its frame or over a block
+    // that the search comes to.
     ensures torn { IfErr result (λ e. IfCorrupt e (TablesTear K.cmp (seen_through S.facts source.old) (seen_through S.facts source.new)
         version.now.tables key.now sequence)) }
     ensures still { IsStill (S.facts source.old.store) (S.facts source.new.store) result }

@@ -1,4 +1,5 @@
-//! A get through the tables of a version, read through caches (LevelDB's db/version_set.cc, Version::Get).
+//! A get through the tables of a version, read through caches (LevelDB's db/version_set.cc,
+//! Version::Get).
 #![tactic(auto)]
 
 mod get;

@@ -36,7 +36,8 @@ fits order files tables contents h = (
   λ content other i has same. same_table_content order files content other same (one_of_tables order files contents content h.are i) has,
 )
 
--- What the files have they may have, by each relation in which a table's bytes stand to its entries.
+-- What the files have they may have, by each relation in which a table's bytes stand to its
+-- entries.
 module _ (holds : PlacedTable → List ℕ → List InternalEntry → Type 0) (order : Order) (is : (placed : PlacedTable) (file : List ℕ) (kept : List InternalEntry) → IsTable order.cmp file kept → holds placed file kept) (files : Files) where
   pub may_hold : (contents : List TableContent) → HasTables order files contents → AllByRecursion (MayHold holds files) contents
   may_hold [] h = tt

@@ -51,7 +51,7 @@ less_parts Greater m n e = absurd (let t : Greater ≡ Less = e in cc)
 -- ---- one table
 
 module _ (order : Order) (o : IsTotalOrder order.cmp) (exact : IsAntisymmetric order.cmp) (user : List ℕ) (sequence : ℕ) (key : List ℕ) (first : IsFirstKey user sequence key) where
-  -- the sought key has the sequence and is a put
+  -- the sought key has the sequence number and is a put
   low_tag : sequence * 256 + 1 ≤ tag_of first.key
   low_tag =
       let other : Key = record { user = user; sequence = sequence; kind = Put } in

@@ -29,7 +29,8 @@ abbrev pub SearchedLaw : Type 0
 SearchedLaw = (order : Order) (tables : List PlacedTable) (contents : List TableContent) (key : List ℕ) (place : ℕ) (placed : PlacedTable)
     → FitVersion order tables contents → IsSearchedAt order.cmp key tables place placed → (entries : List Entry) × InTables contents (content_of placed entries)
 
--- whatever entries the contents have as those of the table, this is what a search for the key in them tells
+-- whatever entries the contents have as those of the table, this is what a search for the key in
+-- them tells
 abbrev pub TableAnswers : List TableContent → PlacedTable → ℕ → List ℕ → Option (Option (List ℕ)) → Type 0
 TableAnswers contents placed sequence user answer = (entries : List Entry) → InTables contents (content_of placed entries) → IsAnswer entries sequence user answer
 
@@ -77,9 +78,10 @@ EndLaw = (order : Order) (tables : List PlacedTable) (contents : List TableConte
     → IsTotalOrder order.cmp → IsAntisymmetric order.cmp → FitVersion order tables contents → IsFirstKey user sequence key → IsSearchedUpTo contents user sequence from
     → ((place : ℕ) (placed : PlacedTable) → from ≤ place → IsSearchedAt order.cmp key tables place placed → ⊥) → IsUnseen (joined (table_sources contents)) sequence user
 
--- ---- the memory tables in front
+-- ---- the memtables in front
 
--- What the last log has, what the logs before it have, and the tables are searched in this turn, and are all entries.
+-- What the last log has, what the logs before it have, and the tables are searched in this turn,
+-- and are all entries.
 abbrev pub MemoryLaw : Type 0
 MemoryLaw = (order : Order) (files : Files) (d : Directory) (before : List LogContent) (last : LogContent) (sources : List (List Entry))
     → IsConsistent order files d → d.logs ≡ before ++ last ∷ [] → AreSearched sources → SameEntries (joined sources) (tabled d.tables)

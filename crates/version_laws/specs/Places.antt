@@ -1,4 +1,5 @@
--- Where the entries of a version's tables are searched, place by place (LevelDB's db/version_set.cc, Version::Get).
+-- Where the entries of a version's tables are searched, place by place (LevelDB's
+-- db/version_set.cc, Version::Get).
 use Rattle.std.specs.Prelude.{◌≡◌, ◌⊎◌, ◌==◌, ◌<◌, ℕ, Some, List, [], ◌∷◌, ◌++◌, map, filter, reverse}
 use Rattle.std.specs.List.{AllByRecursion}
 use Rattle.ikey.specs.declared.entry.Entry.{Entry}
@@ -20,13 +21,15 @@ contents_at level contents = filter (λ (content : TableContent). content.placed
 abbrev pub lists_of : List TableContent → List (List Entry)
 lists_of contents = map (λ (content : TableContent). content.entries) contents
 
--- what is searched at each place: the tables of level 0 from the highest number down, and then each deeper level as one
+-- what is searched at each place: the tables of level 0 from the highest number down, and then each
+-- deeper level as one
 abbrev pub table_sources : List TableContent → List (List Entry)
 table_sources contents =
     reverse (lists_of (contents_at 0 contents))
     ++ map (λ (level : ℕ). joined (lists_of (contents_at level contents))) (1 ∷ 2 ∷ 3 ∷ 4 ∷ 5 ∷ 6 ∷ [])
 
--- The files have the tables of a version, with these contents; in a level below 0 they lie in a row.
+-- The files have the tables of a version, with these contents; in a level below 0 they lie in a
+-- row.
 pub record HasVersion (order : Order) (files : Files) (tables : List PlacedTable) (contents : List TableContent) : Type 0 where
   pub placed : map (λ (content : TableContent). content.placed) contents ≡ tables
   pub are : HasTables order files contents
@@ -35,7 +38,8 @@ pub record HasVersion (order : Order) (files : Files) (tables : List PlacedTable
 
 -- ---- what the tables may have
 
--- The entries of a table fit its edit: they are in order, and lie between two of them that have the edit's keys.
+-- The entries of a table fit its edit: they are in order, and lie between two of them that have the
+-- edit's keys.
 pub record FitsEdit (order : Order) (content : TableContent) : Type 0 where
   pub sorted : AreSorted order content.entries
   pub smallest : (first : Entry) × Among content.entries first × IsKey content.placed.table.smallest (internal_key_of first)
@@ -43,8 +47,8 @@ pub record FitsEdit (order : Order) (content : TableContent) : Type 0 where
   pub largest : (last : Entry) × Among content.entries last × IsKey content.placed.table.largest (internal_key_of last)
       × ((other : Entry) → Among content.entries other → (other ≡ last) ⊎ ComesBefore order other last)
 
--- Contents fit a version of these tables, whatever the files have: each fits its edit, what is searched first is newer, and in a level
--- below 0 they lie in a row.
+-- Contents fit a version of these tables, whatever the files have: each fits its edit, what is
+-- searched first is newer, and in a level below 0 they lie in a row.
 pub record FitVersion (order : Order) (tables : List PlacedTable) (contents : List TableContent) : Type 0 where
   pub placed : map (λ (content : TableContent). content.placed) contents ≡ tables
   pub each : AllByRecursion (FitsEdit order) contents

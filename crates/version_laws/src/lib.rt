@@ -1,4 +1,5 @@
-//! What a search through the tables of a version tells of all entries (LevelDB's db/version_set.cc, Version::Get).
+//! What a search through the tables of a version tells of all entries (LevelDB's db/version_set.cc,
+//! Version::Get).
 #![tactic(auto)]
 
 mod laws;

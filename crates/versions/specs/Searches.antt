@@ -13,20 +13,22 @@ use Rattle.versions.specs.Ranges.{covers, is_up_to, last_user, user_of}
 abbrev pub EndsBelow : (List ℕ → List ℕ → Ordering) → List ℕ → PlacedTable → Type 0
 EndsBelow cmp key placed = IsBelowInternal cmp placed.table.largest key
 
--- The table is the only one of these, which lie each below the next, that may hold the first key from this one
--- on: those before it end below the key.
+-- The table is the only one of these, which lie each below the next, that may hold the first key
+-- from this one on: those before it end below the key.
 abbrev pub IsTableFor : (List ℕ → List ℕ → Ordering) → List ℕ → List PlacedTable → PlacedTable → Type 0
 IsTableFor cmp key tables placed =
     (i : ℕ) × (i < length tables) × HoldsAt (λ other. other ≡ placed) tables i
     × (EndsBelow cmp key placed → ⊥) × AllWithin (EndsBelow cmp key) tables 0 i
 
--- ---- the tables that are searched for a key, in places: one for each table of level 0, and one for each deeper level
+-- ---- the tables that are searched for a key, in places: one for each table of level 0, and one
+-- for each deeper level
 
 abbrev pub search_length : List PlacedTable → ℕ
 search_length tables = length (tables_at 0 tables) + 6
 
--- The table is searched for the key, an internal one, at this place, since it covers its user key: first those of
--- level 0, from the highest number down, and then of each deeper level the first that doesn't end below the key.
+-- The table is searched for the key, an internal one, at this place, since it covers its user key:
+-- first those of level 0, from the highest number down, and then of each deeper level the first
+-- that doesn't end below the key.
 abbrev pub IsSearchedAt : (List ℕ → List ℕ → Ordering) → List ℕ → List PlacedTable → ℕ → PlacedTable → Type 0
 IsSearchedAt cmp key tables place placed =
     (((place < length (tables_at 0 tables)) × HoldsAt (λ other. other ≡ placed) (tables_at 0 tables) (length (tables_at 0 tables) - 1 - place))
@@ -51,13 +53,15 @@ pub record IsSearchedFirst (cmp : List ℕ → List ℕ → Ordering) (key : Lis
   pub here : IsSearchedIn cmp key tables level placed
   pub first : (other : ℕ) (passed : PlacedTable) → from ≤ other → other < level → IsSearchedIn cmp key tables other passed → ⊥
 
--- the table ends with the user key of the key, and not below the key; and all of it comes before the other table
+-- the table ends with the user key of the key, and not below the key; and all of it comes before
+-- the other table
 abbrev pub EndsAtUser : (List ℕ → List ℕ → Ordering) → List ℕ → PlacedTable → PlacedTable → Type 0
 EndsAtUser cmp key placed other =
     IsBelowInternal cmp placed.table.largest other.table.smallest × (EndsBelow cmp key placed → ⊥) × IsTrue (is_up_to cmp (last_user placed) (user_of key))
 
--- Each table that covers the user key and doesn't end below the key is searched, or in its stead one of its level that
--- comes before it and ends with the user key: that one has the first entry from the key on.
+-- Each table that covers the user key and doesn't end below the key is searched, or in its stead
+-- one of its level that comes before it and ends with the user key: that one has the first entry
+-- from the key on.
 abbrev pub SearchesReach : Type 0
 SearchesReach = (cmp : List ℕ → List ℕ → Ordering) → IsTotalOrder cmp → (key : List ℕ) (k : Key) (tables : List PlacedTable) → IsKey key k → AreInOrder cmp tables
     → (placed : PlacedTable) → Contains tables placed → IsTrue (covers cmp placed (user_of key)) → (EndsBelow cmp key placed → ⊥)

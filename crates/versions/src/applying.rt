@@ -14,8 +14,8 @@ use edits::{Field, PlacedTable, copy_of};
 use ikey::KeyOrder;
 use std::alloc::Global;
 
-/// Makes the tables those after one more edit: deleted files go before new ones. Corrupt: a deleted file isn't
-/// there, or a new one doesn't fit in.
+/// Makes the tables those after one more edit: deleted files go before new ones. Corrupt: a deleted
+/// file isn't there, or a new one doesn't fit in.
 pub fn apply_edit<K: KeyOrder>(
     alloc: Global,
     tables: &mut Vec<PlacedTable>,

@@ -8,7 +8,7 @@ use edits::{PlacedTable, copy_of};
 use ikey::KeyOrder;
 use std::alloc::{AllocError, Global};
 
-/// Tables like these.
+/// Copies these tables.
 pub fn copies_of(alloc: Global, tables: &[PlacedTable]) -> Result<Vec<PlacedTable>, AllocError>
     ensures { IfOk result (λ copies. copies.items ≡ tables.now) }
 {

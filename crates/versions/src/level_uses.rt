@@ -9,21 +9,22 @@ use crate::searching::level_of;
 use edits::{LEVELS, PlacedTable};
 use std::alloc::{AllocError, Global};
 
-/// A level's tables, counted.
+/// Counts a level's tables.
 #[derive(Clone, Copy, Debug, PartialEq, Eq)]
 pub struct LevelUse {
     /// From 0 to 6.
     pub level: u32,
     /// How many there are.
     pub files: u64,
-    /// How many bytes they have, by their edits, or 2^64 - 1 where these are more.
+    /// How many bytes they have, by their edits, or 2^64 - 1 if these are more.
     pub bytes: u64,
     /// Whether a compaction of the level is due.
     pub is_due: bool,
 }
 
-/// What each level has of the tables of a layout, from level 0 to 6, and whether a compaction of it is due, where level 0 may have
-/// fewer than so many files, and level 1 so many bytes.
+/// Counts what each level, from 0 to 6, has of the tables of a layout, and tells whether a
+/// compaction of it is due. One is due if level 0 has so many files, or level 1 more than so many
+/// bytes, and so on by tens.
 pub fn uses_of_levels(
     alloc: Global,
     tables: &[PlacedTable],
@@ -80,7 +81,7 @@ fn bytes_of(tables: &[PlacedTable]) -> u64
     bytes
 }
 
-// Law: tables by level and number are by level.
+// Proves that tables by level and number are by level.
 fn levels_rise(tables: &[PlacedTable])
     requires { AreInPlace tables.now }
     ensures { AllPairs (λ a b. a.level ≤ b.level) tables.now }

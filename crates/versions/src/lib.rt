@@ -1,5 +1,5 @@
-//! The tables of a database by level, and what to compact (LevelDB's doc/impl.md, and its db/version_set.h and
-//! db/version_set.cc).
+//! The tables of a database by level, and what to compact (LevelDB's doc/impl.md, and its
+//! db/version_set.h and db/version_set.cc).
 #![tactic(auto)]
 
 mod applying;

@@ -7,7 +7,7 @@ ghost use Rattle.versions.specs.Levels.{AreNumbers};
 use edits::PlacedTable;
 use std::alloc::{AllocError, Global};
 
-/// The numbers of these tables, rising.
+/// Lists the numbers of these tables, rising.
 pub fn numbers_of(alloc: Global, tables: &[PlacedTable]) -> Result<Vec<u64>, AllocError>
     ensures { IfOk result (λ numbers. AreNumbers tables.now numbers.items) }
 {
@@ -19,7 +19,7 @@ pub fn numbers_of(alloc: Global, tables: &[PlacedTable]) -> Result<Vec<u64>, All
     Ok(numbers)
 }
 
-/// Whether the number is one of these, which rise.
+/// Returns whether the number is one of these, which rise.
 pub fn is_among(numbers: &[u64], number: u64) -> bool
     requires { IsNonDecreasing numbers.now }
     ensures { MatchBool result (Contains numbers.now number) (Contains numbers.now number → ⊥) }
@@ -27,7 +27,7 @@ pub fn is_among(numbers: &[u64], number: u64) -> bool
     numbers.binary_search(&number).is_ok()
 }
 
-/// Whether none of these, which rise, stands there twice.
+/// Returns whether none of these, which rise, stands there twice.
 pub fn are_distinct(numbers: &[u64]) -> bool
     requires { IsNonDecreasing numbers.now }
     ensures { MatchBool result (AllPairs (λ a b. a ≢ b) numbers.now) (AllPairs (λ a b. a ≢ b) numbers.now → ⊥) }

@@ -81,8 +81,8 @@ fn ends_before<K: KeyOrder>(tables: &[PlacedTable], place: usize, new: &PlacedTa
     }
 }
 
-/// Puts a table in its place. Corrupt: its number is that of another one, there is no such level, its keys are no range, or it overlaps
-/// one in a level below 0.
+/// Puts a table in its place. Corrupt: its number is that of another one, there is no such level,
+/// its keys are no range, or it overlaps one in a level below 0.
 pub fn put_table<K: KeyOrder>(
     tables: &mut Vec<PlacedTable>,
     new: PlacedTable,
@@ -115,8 +115,8 @@ fn put_fresh<K: KeyOrder>(tables: &mut Vec<PlacedTable>, new: PlacedTable) -> Re
     Ok(())
 }
 
-// Whether no two of these tables have one number. All numbers are looked at together: to look for each among those in front takes the square
-// of their number.
+// Whether no two of these tables have one number. All numbers are looked at together: to look for
+// each among those in front takes the square of their number.
 fn have_own_numbers(alloc: Global, tables: &[PlacedTable]) -> Result<bool, AllocError>
     ensures { IfOk result (λ own. MatchBool own (AllPairs (λ a b. a.table.number ≢ b.table.number) tables.now)
         (AllPairs (λ a b. a.table.number ≢ b.table.number) tables.now → ⊥)) }

@@ -47,8 +47,8 @@ fn in_level<'a, K: KeyOrder>(own: &'a [PlacedTable], key: &[u8]) -> Option<&'a P
     Some(found)
 }
 
-// The first table that is searched from this level on, a deeper one, and its level. Each turn takes the tables of one level
-// off the front, so that levels without tables take no turn.
+// The first table that is searched from this level on, a deeper one, and its level. Each turn takes
+// the tables of one level off the front, so that levels without tables take no turn.
 fn next_deeper<'a, K: KeyOrder>(
     tables: &'a [PlacedTable],
     key: &[u8],
@@ -71,8 +71,8 @@ fn next_deeper<'a, K: KeyOrder>(
     None
 }
 
-/// The first table, of those of a version, that is searched for this internal key at this place or behind it, and
-/// its place.
+/// Returns the first table, of those of a version, that is searched for this internal key at this
+/// place or a later one, and its place.
 pub fn next_searched<'a, K: KeyOrder>(
     tables: &'a [PlacedTable],
     key: &[u8],
@@ -89,7 +89,8 @@ pub fn next_searched<'a, K: KeyOrder>(
             return Some((place, placed));
         }
     }
-    // Behind the places of level 0 there is one for each deeper level. This many of those lie in front of `from`.
+    // After the places of level 0 there is one for each deeper level. This many of those lie before
+    // `from`.
     let above = from.saturating_sub(newest.len());
     if above >= LEVELS as usize - 1 {
         return None;

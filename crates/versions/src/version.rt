@@ -19,9 +19,10 @@ use ikey::KeyOrder;
 use std::alloc::{AllocError, Global};
 use std::marker::{Model, PhantomData};
 
-/// The tables of a database by level, with the compact pointer of each level (LevelDB's db/version_set.h,
-/// `Version`). They are in order: by level, in level 0 by number, and in a deeper level each below the next, where
-/// user keys are in the order K. Contracts see the list of the tables and that of the pointers.
+/// Holds the tables of a database by level, with the compact pointer of each level (LevelDB's
+/// db/version_set.h, `Version`). They are in order: by level, in level 0 by number, and in a deeper
+/// level each below the next, where user keys are in the order K. Contracts see the list of the
+/// tables and that of the pointers.
 #[derive(Drop)]
 pub struct Version<K: KeyOrder> {
     tables: Vec<PlacedTable>,
@@ -54,8 +55,9 @@ impl<K: KeyOrder> Version<K> {
     ghost use Rattle.edits.specs.declared.field.PlacedTable.{PlacedTable as Placed};
     ghost use Rattle.versions.specs.Searches.{EndsBelow, IsTableFor, IsSearchedAt, IsSearchedNext};
 
-    /// The version that has the tables and compact pointers of a layout. Corrupt: tables of a level below 0
-    /// overlap, or a table's smallest key is above its largest, or two tables have one number.
+    /// Makes the version that has the tables and compact pointers of a layout. Corrupt: tables of a
+    /// level below 0 overlap, or a table's smallest key is above its largest, or two tables have
+    /// one number.
     pub fn new(alloc: Global, layout: &Layout) -> Result<Self, ReadError>
         requires { length layout.now.compact_pointers.items ≡ 7 }
         ensures found { IfOk result (λ version. HasLayout layout.now.tables.items layout.now.compact_pointers.items version) }
@@ -73,8 +75,9 @@ impl<K: KeyOrder> Version<K> {
         })
     }
 
-    /// The version after one more edit, which leaves this one as it is: deleted files go before new ones. Corrupt: a
-    /// deleted file isn't at that level, or a new one's number is there, or it doesn't fit in as in `new`.
+    /// Makes the version after one more edit, which leaves this one as it is: deleted files go
+    /// before new ones. Corrupt: a deleted file isn't at that level, or a new one's number is
+    /// there, or it doesn't fit in as in `new`.
     pub fn after(&self, alloc: Global, edit: &[Field]) -> Result<Self, ReadError>
         ensures tables { IfOk result (λ new. LeadsLayout (after_edit edit.now) self.now.tables new.tables) }
         ensures pointers { IfOk result (λ new. new.compact_pointers ≡ pointers_after edit.now 0 self.now.compact_pointers) }
@@ -91,9 +94,9 @@ impl<K: KeyOrder> Version<K> {
         })
     }
 
-    /// The version that has the inputs of a plan as its tables, and no compact pointers: a cursor over all of its tables is
-    /// one over what the plan merges. That the inputs are in order is known of each plan for a version's tables
-    /// (`inputs_in_order`).
+    /// Makes the version that has the inputs of a plan as its tables, and no compact pointers. A
+    /// cursor over all of its tables is one over what the plan merges. That the inputs are in order
+    /// is known of each plan for a version's tables (`inputs_in_order`).
     pub fn over_inputs(alloc: Global, plan: &JobPlan) -> Result<Self, AllocError>
         requires { AreInOrder K.cmp plan.now.inputs.items }
         ensures tables { IfOk result (λ version. version.tables ≡ plan.now.inputs.items) }
@@ -107,7 +110,7 @@ impl<K: KeyOrder> Version<K> {
         })
     }
 
-    /// All tables, in order.
+    /// Returns all tables, in order.
     pub fn tables(&self) -> &[PlacedTable]
         ensures is { result.now ≡ self.now.tables }
         ensures order { AreInOrder K.cmp self.now.tables }
@@ -115,7 +118,8 @@ impl<K: KeyOrder> Version<K> {
         &self.tables
     }
 
-    /// The tables of a level, in order: those of level 0 by number, those of a deeper level by key.
+    /// Returns the tables of a level, in order: those of level 0 by number, those of a deeper level
+    /// by key.
     pub fn level(&self, level: u32) -> &[PlacedTable]
         requires { level < 7 }
         ensures { result.now ≡ tables_at level self.now.tables }
@@ -123,7 +127,8 @@ impl<K: KeyOrder> Version<K> {
         level_of(&self.tables, level)
     }
 
-    /// The internal key behind which the next compaction of the level begins, if there is one.
+    /// Returns the internal key after which the next compaction of the level begins, if there is
+    /// one.
     pub fn compact_pointer(&self, level: u32) -> Option<&[u8]>
         ensures { option_copied result ≡ pointer_at level self.now.compact_pointers }
     {
@@ -134,8 +139,9 @@ impl<K: KeyOrder> Version<K> {
         }
     }
 
-    /// The one table of a level below 0 that may hold the first key of the level from this internal key on
-    /// (LevelDB's db/version_set.cc, `FindFile`). In level 0 each table is asked, from the last one down.
+    /// Finds the one table of a level below 0 that may hold the first key of the level from this
+    /// internal key on (LevelDB's db/version_set.cc, `FindFile`). In level 0 each table is asked,
+    /// from the last one down.
     pub fn find(&self, level: u32, key: &[u8]) -> Option<&PlacedTable>
         requires low { 0 < level }
         requires level { level < 7 }
@@ -145,10 +151,11 @@ impl<K: KeyOrder> Version<K> {
         find_at::<K>(&self.tables, level, key)
     }
 
-    /// The next table that is to be searched for an internal key, from this place on, and its place: of level 0, from the
-    /// highest number down, those that cover the user key, and then of each deeper level the one that `find` answers,
-    /// if it covers it (LevelDB's db/version_set.cc, `Version::ForEachOverlapping`). A search begins at place 0, and goes
-    /// on at the place behind that of the table. It takes no memory.
+    /// Returns the next table to search for an internal key, from this place on, and its place
+    /// (LevelDB's db/version_set.cc, `Version::ForEachOverlapping`). Those are first the tables of
+    /// level 0 that cover the user key, from the highest number down. Then comes of each deeper
+    /// level the table that `find` returns, if it covers the key. A search begins at place 0, and
+    /// goes on at the place after that of the table. It takes no memory.
     pub fn next_searched(&self, key: &[u8], from: usize) -> Option<(usize, &PlacedTable)>
         ensures { MatchOption result
             ((place : ℕ) (placed : Placed) → from ≤ place → IsSearchedAt K.cmp key.now self.now.tables place placed → ⊥)
@@ -157,8 +164,9 @@ impl<K: KeyOrder> Version<K> {
         next_searched::<K>(&self.tables, key, from)
     }
 
-    /// Whether no table of a level below this one covers the user key (LevelDB's db/version_set.cc,
-    /// `Compaction::IsBaseLevelForKey`). The level is that to which a compaction writes.
+    /// Returns whether no table of a level below this one covers the user key (LevelDB's
+    /// db/version_set.cc, `Compaction::IsBaseLevelForKey`). The level is that to which a compaction
+    /// writes.
     pub fn is_free_below(&self, level: u32, user: &[u8]) -> bool
         requires low { 0 < level }
         requires level { level < 7 }
@@ -169,8 +177,9 @@ impl<K: KeyOrder> Version<K> {
         is_free_below::<K>(&self.tables, level, user)
     }
 
-    /// The compaction that is most wanted (LevelDB's db/version_set.cc, `VersionSet::PickCompaction`), or none where no
-    /// level from 0 to 5 needs one. OutOfMemory: there is none for the plan.
+    /// Picks the compaction that is most wanted (LevelDB's db/version_set.cc,
+    /// `VersionSet::PickCompaction`), or None if no level from 0 to 5 needs one. OutOfMemory: there
+    /// is none for the plan.
     pub fn pick(
         &self,
         alloc: Global,
@@ -194,7 +203,8 @@ impl<K: KeyOrder> Version<K> {
         Ok(Some(plan_behind::<K>(alloc, &self.tables, level, pointer)?))
     }
 
-    /// The compaction of all tables of a level, which moves no compact pointer, or none where it has none.
+    /// Plans the compaction of all tables of a level, which moves no compact pointer. None: the
+    /// level has no table.
     pub fn plan_level(&self, alloc: Global, level: u32) -> Result<Option<JobPlan>, AllocError>
         requires { level < 6 }
         ensures { IfOk result (λ found. MatchOption found (tables_at level self.now.tables ≡ []) (λ plan. IsLevelPlan K.cmp self.now.tables level plan)) }
@@ -202,7 +212,8 @@ impl<K: KeyOrder> Version<K> {
         plan_of_level::<K>(alloc, &self.tables, level)
     }
 
-    /// The compaction of all tables into level 6, which moves no compact pointer, or none where there are none.
+    /// Plans the compaction of all tables into level 6, which moves no compact pointer. None: there
+    /// is no table.
     pub fn plan_all(&self, alloc: Global) -> Result<Option<JobPlan>, AllocError>
         ensures { IfOk result (λ found. MatchOption found (self.now.tables ≡ []) (λ plan. IsWholePlan self.now.tables plan)) }
     {
@@ -216,7 +227,7 @@ impl<K: KeyOrder> Version<K> {
         }))
     }
 
-    /// Whether there is a table of this number.
+    /// Returns whether there is a table of this number.
     pub fn has_number(&self, number: u64) -> bool
         ensures { MatchBool result (HasNumber number self.now.tables) (HasNumber number self.now.tables → ⊥) }
     {

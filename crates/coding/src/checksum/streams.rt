@@ -1,5 +1,5 @@
 //! The register of CRC-32C over blocks of sixteen bytes, in four streams of words that don't wait
-//! for one another: the portable form of LevelDB's `util/crc32c.cc`.
+//! for one another. This is the portable form of LevelDB's `util/crc32c.cc`.
 
 ghost use Rattle.std.specs.Prelude.{◌≡◌, flat_map};
 ghost use Rattle.coding.specs.Checksum.{shifted_by, register_after};
@@ -9,7 +9,7 @@ use super::tables::{
     SHIFTED_BY_120, SHIFTED_BY_128,
 };
 
-/// The register after the bytes of all the blocks.
+/// Returns the register after the bytes of all the blocks.
 pub fn register_over_blocks(start: u32, blocks: &[[u8; 16]]) -> u32
     ensures { result ≡ register_after start (flat_map (λ block. block) blocks.now) }
 {
@@ -23,7 +23,7 @@ pub fn register_over_blocks(start: u32, blocks: &[[u8; 16]]) -> u32
     streams.register()
 }
 
-// Four words, one behind the other, that the register still has to take up. Each moves ahead by a
+// Four words, one after the other, that the register still has to take up. Each moves ahead by a
 // whole block in one step, and the word of the next block that stands there is added to it.
 #[derive(Clone, Copy)]
 struct Streams {

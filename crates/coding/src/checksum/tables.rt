@@ -1,6 +1,6 @@
-//! What a byte in the register of CRC-32C leaves behind: entry `i` of `SHIFTED_BY_n` is the
-//! register `n` bits of zeros later, where it held `i`. The first table is the byte extension table
-//! of LevelDB's `util/crc32c.cc`, and the last four are its stride extension tables.
+//! What a byte in the register of CRC-32C leaves: entry `i` of `SHIFTED_BY_n` is the register `n`
+//! bits of zeros later, if it held `i`. The first table is the byte extension table of LevelDB's
+//! `util/crc32c.cc`, and the last four are its stride extension tables.
 
 #[rattlefmt::skip]
 pub static SHIFTED_BY_8: [u32; 256] = [

@@ -1,4 +1,5 @@
--- Over which memory tables and which of a version's tables a scan has cursors (LevelDB's db/version_set.cc, Version::AddIterators).
+-- Over which memtables and which of a version's tables a scan has cursors (LevelDB's
+-- db/version_set.cc, Version::AddIterators).
 use Rattle.std.specs.Prelude.{◌+◌, ◌++◌, ℕ, zero, suc, Bool, Option, Some, None, List, [], ◌∷◌, is_some, length, map, nat_lt, false, if◌then◌else◌}
 use Rattle.edits.specs.declared.field.PlacedTable.{PlacedTable}
 use Rattle.db_cursor.specs.declared.source_cursor.SourceCursor.{SourceCursor}
@@ -6,7 +7,8 @@ use Rattle.db_cursor.specs.declared.source_cursor.SourceCursor.TheVariants.{Memo
 use Rattle.memtables.specs.Places.{MemoriesPlace}
 use Rattle.versions.specs.Levels.{tables_at}
 
--- What a new cursor goes over: a memory table, or of these tables those from one index to another. It may have opened one.
+-- What a new cursor goes over: a memtable, or of these tables those from one index to another.
+-- It may have opened one.
 pub data Spot : Type 0 where
   OfMemory : MemoriesPlace → Spot
   OfRow : List PlacedTable → ℕ → ℕ → Bool → Spot
@@ -15,11 +17,11 @@ abbrev pub spot_of : {K : Type 0} {g : _} → SourceCursor K g → Spot
 spot_of (Memory cursor) = OfMemory cursor
 spot_of (Row cursor) = OfRow cursor.version.value.tables cursor.from cursor.end (is_some cursor.here)
 
--- a cursor over the memory table of a generation that stands nowhere
+-- a cursor over the memtable of a generation that stands nowhere
 abbrev pub place_in : ℕ → ℕ → MemoriesPlace
 place_in sequence generation = record { generation = generation; place = record { sequence = sequence; node = None; key = [] } }
 
--- over the current memory table, and over the sealed one, where there is one
+-- over the current memtable, and over the sealed one, where there is one
 abbrev pub memory_spots : ℕ → ℕ → Option ℕ → List Spot
 memory_spots sequence generation None = OfMemory (place_in sequence generation) ∷ []
 memory_spots sequence generation (Some sealed) = OfMemory (place_in sequence generation) ∷ OfMemory (place_in sequence sealed) ∷ []

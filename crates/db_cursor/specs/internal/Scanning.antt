@@ -24,7 +24,7 @@ use Rattle.table.specs.Reading.{Reads, IsStill}
 abbrev pub has_pair : {K : Type 0} {g : _} → Scan K g → Bool
 has_pair scan = value_at_hand (λ merge. child_stands source_stands merge.children.items merge.current) scan.walk
 
--- two scans read the same memory tables, and have the same version
+-- two scans read the same memtables, and have the same version
 pub record ReadsAs {K : Type 0} {g : _} (old new : Scan K g) : Type 0 where
   pub generation : new.generation ≡ old.generation
   pub sealed : new.sealed ≡ old.sealed
@@ -53,8 +53,8 @@ pub record IsScanned {K : Type 0} {g : _} (cmp : Cmp) (to : Walked → Option �
   -- where that is damage, a torn block lies at a cut to which it came, whichever list it is
   pub refused : IfErr result (λ e. Refuses e before.seen.facts after.seen.facts ((at : Walked) → MayBeScan cmp old before at → (cut : Cut) × IsScanTorn cmp old before cut) (IsScanLimited cmp old before))
 
--- Where a scan has come to a place by a move, and the one before it stood elsewhere among the same pairs, the move taken back
--- leads to where that one stood.
+-- Where a scan has come to a place by a move, and the one before it stood elsewhere among the same
+-- pairs, the move taken back leads to where that one stood.
 abbrev pub TakesBack : {K : Type 0} {g : _} → Cmp → Bool → Scan K g → Scan K g → Type 0
 TakesBack {K} {g} cmp stood old new = (first : Scan K g) (before after : Whole) (pairs : List Pair) (from to : Option ℕ)
     → MayBeScan cmp first before (walked pairs from) → MayBeScan cmp old after (walked pairs to)
@@ -75,7 +75,8 @@ MayBeIsKept cmp scan = (old new : Whole) (at : Walked) → KeepsScan cmp scan ol
 abbrev pub IntactScans : {K : Type 0} {g : _} → Cmp → Scan K g → Type 0
 IntactScans cmp scan = (whole : Whole) (at : Walked) → MayBeScan cmp scan whole at → ((cut : Cut) → IsScanTorn cmp scan whole cut → ⊥) → IsScan cmp scan whole at
 
--- What is written above a scan's sequence leaves what it reads, where files and what is kept of them do.
+-- What is written above a scan's sequence number leaves what it reads, where files and what is kept
+-- of them do.
 abbrev pub WritesAreKept : Cmp → Type 0
 WritesAreKept cmp = (sequence : ℕ) (old new : Whole) (more : List Entry) → sequence ≤ old.memory.last
     → HasMoreEntries old.memory new.memory more → AllByRecursion (λ (entry : Entry). old.memory.last < entry.sequence) more

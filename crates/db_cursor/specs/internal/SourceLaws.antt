@@ -14,7 +14,7 @@ use Rattle.db_cursor.specs.Scans.{KeepsUpTo, KeepsWhole}
 use Rattle.db_cursor.specs.Whole.{Whole}
 use Rattle.table_access.specs.TableLaws.{carries_both, carries_itself, carries_more}
 
--- what any scan at the sequence reads, one that reads less of it reads
+-- what any scan at the sequence number reads, one that reads less of it reads
 pub keeps_any : (cmp : Cmp) (generations numbers : ℕ → Type 0) (sequence : ℕ) (old new : Whole) → KeepsUpTo cmp sequence old new → KeepsWhole cmp generations numbers sequence old new
 keeps_any cmp generations numbers sequence old new k = record { memory = λ cursor named le. k.memory cursor le; files = λ number named. k.files number; sound = k.sound }
 

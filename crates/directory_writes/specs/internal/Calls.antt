@@ -8,8 +8,8 @@ use Rattle.store.specs.declared.error.StoreError.{StoreError}
 use Rattle.table.specs.Writing.{SyncsOnly}
 use Rattle.store.specs.declared.error.StoreError.TheVariants as store_error
 
--- Once a store has returned something else than what was written, that is so for good. The failures don't fall, and the
--- lock is left alone.
+-- Once a store has returned something else than what was written, that is so for good. The failures
+-- don't fall, and the lock is left alone.
 pub record Touches (old new : Facts) : Type 0 where
   pub faithful : IsTrue new.faithful → IsTrue old.faithful
   pub failures : old.failures ≤ new.failures
@@ -33,8 +33,8 @@ pub record Creates (old new : Facts) (name : List ℕ) (result : Result (Unit {0
   pub memory : IsTrue new.faithful → result ≡ Err OutOfMemory → (new.files ≡ old.files) × (new.synced ≡ old.synced)
   pub synced : IsTrue new.faithful → SyncsOnly old.synced new.synced name
 
--- The bytes stand behind the file, and the device keeps all of it; or, where the device fails, nothing of them or a
--- beginning is there.
+-- The bytes stand behind the file, and the device keeps all of it; or, where the device fails,
+-- nothing of them or a beginning is there.
 pub record AppendsSynced (old new : Facts) (name bytes : List ℕ) (result : Result (Unit {0}) DbError) : Type 0 where
   pub ok : IsTrue new.faithful → OnOk result (Appends old.files new.files name bytes × (new.synced name ≡ get new.files name))
   pub io : IsTrue new.faithful → result ≡ Err Io → AppendsBeginning old.files new.files name bytes

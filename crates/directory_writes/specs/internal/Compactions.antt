@@ -1,4 +1,5 @@
--- What a finished compaction leaves of a directory (LevelDB's db/db_impl.cc, InstallCompactionResults).
+-- What a finished compaction leaves of a directory (LevelDB's db/db_impl.cc,
+-- InstallCompactionResults).
 use Rattle.std.specs.Prelude.{◌≡◌, ◌<◌, ◌+◌, ◌^◌, ℕ, Bool, IsTrue, false, Some, None, Option, List, [], ◌∷◌, ◌++◌, map}
 use Rattle.std.specs.List.{AllByRecursion, Contains}
 use Rattle.std.specs.List.Sorted.{IsPermutation}
@@ -43,8 +44,8 @@ use Rattle.directory_writes.specs.Replacing.{placed_in}
 abbrev pub at_level : ℕ → TableFile → PlacedTable
 at_level level table = record { level = level; table = table }
 
--- The files have these tables at the level, one for each that was written, and together they have what was kept, in
--- order. No block of them is too long to be read.
+-- The files have these tables at the level, one for each that was written, and together they have
+-- what was kept, in order. No block of them is too long to be read.
 pub record AreOutputs (order : Order) (files : Files) (level : ℕ) (tables : List TableFile) (kept : List InternalEntry) (outputs : List TableContent) : Type 0 where
   pub placed : placed_in outputs ≡ map (at_level level) tables
   pub entries : tabled outputs ≡ map entry_of kept
@@ -64,7 +65,8 @@ abbrev pub IsUnused : List PlacedTable → Field → Type 0
 IsUnused tables (NewFile placed) = is_used placed.table.number tables ≡ false
 IsUnused tables field = Unit {0}
 
--- The edit of a job takes the inputs out of the tables of a layout, and puts the outputs in, each in its place.
+-- The edit of a job takes the inputs out of the tables of a layout, and puts the outputs in, each
+-- in its place.
 abbrev pub ReplacesLaw : Type 0
 ReplacesLaw = (level next last : ℕ) (planned : List PlacedTable) (pointer : Option (List ℕ)) (tables : List TableFile) (edit : List Field) (contents inputs rest outputs : List TableContent)
     → IsEditOf level planned pointer tables next last edit → IsInOrder edit → AllByRecursion (IsUnused (placed_in contents)) edit
@@ -88,9 +90,9 @@ JobFoldsLaw = (name : List ℕ) (edits : List (List Field)) (level next last : �
 
 -- ---- the whole
 
--- A job of a plan for this directory has ended over files that are still this directory, and answered this edit: its
--- inputs may be replaced, all of their entries came, no output has the number of a table, and the edit's sequence number
--- is the last one used.
+-- A job of a plan for this directory has ended over files that are still this directory, and
+-- answered this edit: its inputs may be replaced, all of their entries came, no output has the
+-- number of a table, and the edit's sequence number is the last one used.
 pub record IsJobDone (order : Order) (deep : List ℕ → Bool) (plan : JobPlan) (last : List ℕ) (c : Choosing) (facts : Facts) (number : ℕ) (came : List InternalEntry) (edit : List Field) (d : Directory) (inputs rest : List TableContent) : Type 0 where
   pub consistent : IsConsistent order facts.files d
   pub parted : AreParted d.tables inputs rest
@@ -103,8 +105,8 @@ pub record IsJobDone (order : Order) (deep : List ℕ → Bool) (plan : JobPlan)
   pub in_order : IsInOrder edit
   pub unused : AllByRecursion (IsUnused d.layout.tables.items) edit
 
--- Its outputs are there with what must be kept of what came, in their order, and stand in these tables in place of the
--- inputs.
+-- Its outputs are there with what must be kept of what came, in their order, and stand in these
+-- tables in place of the inputs.
 pub record IsJobPut (order : Order) (deep : List ℕ → Bool) (level : ℕ) (snapshots : List ℕ) (files : Files) (came : List InternalEntry) (edit : List Field) (d : Directory) (inputs rest outputs contents : List TableContent) : Type 0 where
   pub after : after_edit edit d.layout.tables.items ≡ Some (placed_in contents)
   pub compaction : (next : Layout) → IsLayout order.name (d.edits ++ edit ∷ []) next → IsCompaction order d next inputs rest outputs contents level
@@ -125,13 +127,13 @@ UnusedLaw = (w : TablesWritten) (edit : List Field) (tables : List PlacedTable)
 
 -- ---- behind the MANIFEST
 
--- A reader at a sequence that sees what one of the snapshots sees, sees the same.
+-- A reader at a sequence number that sees what one of the snapshots sees, sees the same.
 abbrev pub AreSeenAlike : List Entry → List ℕ → Directory → Directory → Type 0
 AreSeenAlike merged snapshots before after = (p : ℕ) (map : Contents) → SeesAsOne merged snapshots p → IsView (entries_in before) p map → IsView (entries_in after) p map
 
--- Once the edit stands behind the MANIFEST, and no other file has changed, the directory is consistent with the outputs
--- in the place of the inputs. Where of each key of the inputs all else is newer, or the job has kept deletes of it, the
--- views of the snapshots are as they were.
+-- Once the edit stands behind the MANIFEST, and no other file has changed, the directory is
+-- consistent with the outputs in the place of the inputs. Where of each key of the inputs all else
+-- is newer, or the job has kept deletes of it, the views of the snapshots are as they were.
 abbrev pub JobPutLaw : Type 0
 JobPutLaw = (order : Order) (deep : List ℕ → Bool) (level : ℕ) (snapshots : List ℕ) (old new : Files) (came : List InternalEntry) (edit : List Field) (d : Directory) (next : Layout) (inputs rest outputs contents : List TableContent)
     → IsConsistent order old d → IsJobPut order deep level snapshots old came edit d inputs rest outputs contents → SameEntries (map entry_of came) (tabled inputs)
@@ -140,7 +142,8 @@ JobPutLaw = (order : Order) (deep : List ℕ → Bool) (level : ℕ) (snapshots 
     × (used_in (compacted d (d.edits ++ edit ∷ []) next contents) ≡ used_in d)
     × (AreNewerOrDeep (tabled inputs) (tabled rest ++ logged d.logs) deep → AreSeenAlike (tabled inputs) snapshots d (compacted d (d.edits ++ edit ∷ []) next contents))
 
--- So it is where the inputs are closed, and `deep` has the keys of all tables below the level that is written.
+-- So it is where the inputs are closed, and `deep` has the keys of all tables below the level that
+-- is written.
 abbrev pub JobApartLaw : Type 0
 JobApartLaw = (order : Order) (files : Files) (d : Directory) (inputs rest : List TableContent) (level : ℕ) (deep : List ℕ → Bool) → IsTotalOrder order.cmp
     → IsConsistent order files d → AreParted d.tables inputs rest → AreClosedInputs order inputs rest level

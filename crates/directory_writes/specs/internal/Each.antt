@@ -20,18 +20,20 @@ use Rattle.directory_writes.specs.internal.Manifest.{AppendsEdit}
 abbrev pub SameChangeLaw : Type 0
 SameChangeLaw = (old new whole : Files) → DiffersInTables old whole → (after : Files) × IsSameChange old new whole after × DiffersInTables new after
 
--- So does whatever the same change leaves; where both had the same file before, they have the same one then.
+-- So does whatever the same change leaves; where both had the same file before, they have the same
+-- one then.
 abbrev pub SameFileLaw : Type 0
 SameFileLaw = (old new whole after : Files) → DiffersInTables old whole → IsSameChange old new whole after
     → DiffersInTables new after × ((name : List ℕ) → get whole name ≡ get old name → get after name ≡ get new name)
 
--- Each file stayed in both, or is the new one there too. So what holds of the two directories file by file, as of what of a damaged table
--- is whole, holds of them still.
+-- Each file stayed in both, or is the new one there too. So what holds of the two directories file
+-- by file, as of what of a damaged table is whole, holds of them still.
 abbrev pub EachFileLaw : Type 0
 EachFileLaw = (old new whole after : Files) → IsSameChange old new whole after
     → (name : List ℕ) → ((get new name ≡ get old name) × (get after name ≡ get whole name)) ⊎ (get after name ≡ get new name)
 
--- A directory differs in nothing from itself, and a change is the same as itself; one thing is left by it.
+-- A directory differs in nothing from itself, and a change is the same as itself; one thing is left
+-- by it.
 abbrev pub OneChangeLaw : Type 0
 OneChangeLaw = (old new : Files) → DiffersInTables old old × IsSameChange old new old new
     × ((whole after other : Files) → IsSameChange old new whole after → IsSameChange old new whole other → after ≡ other)

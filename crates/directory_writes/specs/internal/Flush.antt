@@ -1,4 +1,5 @@
--- What a flush of a sealed memory table does to the directory (LevelDB's db/db_impl.cc, DBImpl::CompactMemTable).
+-- What a flush of a sealed memtable does to the directory (LevelDB's db/db_impl.cc,
+-- DBImpl::CompactMemTable).
 use Rattle.std.specs.Prelude.{◌≡◌, ◌≢◌, ◌⊎◌, ◌<◌, ◌≤◌, ◌+◌, ◌^◌, ℕ, List, [], ◌∷◌, ◌++◌, map, All, IsTrue, Result, Ok, Err, IfOk, OnOk, string_bytes}
 use Rattle.std.specs.FinMap.{get}
 use Rattle.std.specs.declared.cmp.Ordering.{Ordering}
@@ -41,8 +42,9 @@ use Rattle.directory_writes.specs.declared.manifest.CurrentManifest.{CurrentMani
 abbrev pub DrawsTable : Facts → Facts → ℕ → ℕ → Type 0
 DrawsTable old new next after = ((after ≡ next) × (new ≡ old)) ⊎ ((after ≡ next + 1) × (0 < next) × (next < 2 ^ 62))
 
--- Once a store has returned something else than what was written, that is so for good. The failures don't fall, and the
--- lock is left alone. But for the files of these names, all are as before, and what is synced of them.
+-- Once a store has returned something else than what was written, that is so for good. The failures
+-- don't fall, and the lock is left alone. But for the files of these names, all are as before, and
+-- what is synced of them.
 pub record FlushTouches (old new : Facts) (table manifest : List ℕ) : Type 0 where
   pub faithful : IsTrue new.faithful → IsTrue old.faithful
   pub failures : old.failures ≤ new.failures
@@ -63,8 +65,8 @@ RefusesVersion OutOfMemory astray = Unit {0}
 RefusesVersion (Corrupt file what) astray = astray
 RefusesVersion e astray = ⊥
 
--- Why a table wasn't made ready: Corrupt only where the version has a table of the number that is drawn, and Unsupported only where a
--- block would be too long.
+-- Why a table wasn't made ready: Corrupt only where the version has a table of the number that is
+-- drawn, and Unsupported only where a block would be too long.
 abbrev pub RefusesNewTable : DbError → Facts → Facts → List Entry → List PlacedTable → ℕ → ℕ → Type 0
 RefusesNewTable OutOfMemory old new entries tables next after = new.failures ≡ old.failures
 RefusesNewTable Io old new entries tables next after = old.failures < new.failures
@@ -125,8 +127,9 @@ Prepares order new next after plan entries old result = IfOk result (λ prepared
 
 -- ---- what the directory means
 
--- The files are a directory whose logs are sealed ones, which have the entries of the memory table, and the current one; the
--- edit that is planned can be put behind its MANIFEST; no number from `next` on is taken, and the tables are the directory's.
+-- The files are a directory whose logs are sealed ones, which have the entries of the memtable,
+-- and the current one; the edit that is planned can be put behind its MANIFEST; no number from
+-- `next` on is taken, and the tables are the directory's.
 pub record CanFlush (order : Order) (files : Files) (next : ℕ) (plan : FlushPlan) (manifest : CurrentManifest) (entries : List Entry) (tables : List PlacedTable)
     (d : Directory) (sealed : List LogContent) (current : LogContent) : Type 0 where
   pub consistent : IsConsistent order files d
@@ -146,13 +149,14 @@ pub record CanFlush (order : Order) (files : Files) (next : ℕ) (plan : FlushPl
 abbrev pub PassesNoLimit : Order → Files → Directory → Type 0
 PassesNoLimit order files d = HasPastLimit (fields_of d.edits) ⊎ AnyHasBytes (IsLongTable order) files d.tables → ⊥
 
--- What is the same in the files after a call: the logs and the tables of the directory, and where the last log ends.
+-- What is the same in the files after a call: the logs and the tables of the directory, and where
+-- the last log ends.
 pub record KeepsLogsAndTables (old new : Files) (d e : Directory) : Type 0 where
   pub beside : AgreeBeside old new d
   pub ends : (log position : ℕ) → EndsAt old d log position → EndsAt new e log position
 
--- The files are the same directory, but that a table of level 0 of this number has the entries of the sealed logs in their place.
--- No entry is lost or new, and no limit is passed that wasn't.
+-- The files are the same directory, but that a table of level 0 of this number has the entries of
+-- the sealed logs in their place. No entry is lost or new, and no limit is passed that wasn't.
 pub record HasFlushed (order : Order) (old new : Files) (number after : ℕ) (entries : List Entry) (d : Directory) (sealed : List LogContent) (current : LogContent) : Type 0 where
   pub content : TableContent
   pub edit : List Field

@@ -1,5 +1,5 @@
--- What the end of a job does to the directory: its outputs come in the place of its inputs (LevelDB's db/db_impl.cc,
--- InstallCompactionResults).
+-- What the end of a job does to the directory: its outputs come in the place of its inputs
+-- (LevelDB's db/db_impl.cc, InstallCompactionResults).
 use Rattle.std.specs.Prelude.{◌≡◌, ◌≢◌, ◌⊎◌, ◌<◌, ◌≤◌, ◌^◌, ℕ, Bool, List, [], ◌∷◌, ◌++◌, map, All, IsTrue, IfOk, Some, Result, Ok, Err, string_bytes}
 use Rattle.std.specs.FinMap.{get}
 use Rattle.std.specs.List.{AllByRecursion, Contains}
@@ -44,8 +44,9 @@ use Rattle.directory_writes.specs.declared.manifest.CurrentManifest.{CurrentMani
 
 -- ---- over any store
 
--- Once a store has returned something else than what was written, that is so for good. The failures don't fall, and the
--- lock is left alone. But for the table at hand and the MANIFEST all files are as before, and what is synced of them.
+-- Once a store has returned something else than what was written, that is so for good. The failures
+-- don't fall, and the lock is left alone. But for the table at hand and the MANIFEST all files are
+-- as before, and what is synced of them.
 pub record InstallTouches (old new : Facts) (w : TablesWritten) (manifest : List ℕ) : Type 0 where
   pub faithful : IsTrue new.faithful → IsTrue old.faithful
   pub failures : old.failures ≤ new.failures
@@ -54,7 +55,8 @@ pub record InstallTouches (old new : Facts) (w : TablesWritten) (manifest : List
   pub others : IsTrue new.faithful → (name : List ℕ) → ((number : ℕ) → IsNumberAtHand w number → name ≢ table_name number) → name ≢ manifest → get new.files name ≡ get old.files name
   pub synced : IsTrue new.faithful → (name : List ℕ) → ((number : ℕ) → IsNumberAtHand w number → name ≢ table_name number) → name ≢ manifest → new.synced name ≡ old.synced name
 
--- The edit can be written, and puts in tables that the job wrote. Where the store is faithful, it is that of the job.
+-- The edit can be written, and puts in tables that the job wrote. Where the store is faithful, it
+-- is that of the job.
 pub record IsJobEdit {K C : Type 0} (cmp : List ℕ → List ℕ → Ordering) (job : Job K C) (old new : Facts) (next last_sequence : ℕ) (edit : List Field) : Type 0 where
   pub proper : All IsProper edit
   pub spelled : IsInOrder edit
@@ -72,7 +74,8 @@ abbrev pub MayBeTooLong : {K C : Type 0} → (List ℕ → List ℕ → Ordering
 MayBeTooLong cmp job old next =
     (deep : List ℕ → Bool) (came : List InternalEntry) → IsMerging cmp deep job.last.items job.selection job.outputs old next came → AreLarge (map entry_of came)
 
--- Why no edit is ready: for a reason for which a table isn't ended, or where the version has no room.
+-- Why no edit is ready: for a reason for which a table isn't ended, or where the version has no
+-- room.
 abbrev pub RefusesEdit : {K C : Type 0} → DbError → (List ℕ → List ℕ → Ordering) → Job K C → Facts → Facts → ℕ → ℕ → List PlacedTable → Type 0
 RefusesEdit e cmp job old new next last_sequence tables = RefusesEntry e old new (HasNoRoom cmp job old new next last_sequence tables) (MayBeTooLong cmp job old next) ⊥
 
@@ -98,8 +101,8 @@ AreOutputsKept cmp job old next facts = (deep : List ℕ → Bool) (came : List 
 abbrev pub AreOldOrSynced : Facts → List PlacedTable → List PlacedTable → Type 0
 AreOldOrSynced facts old new = (placed : PlacedTable) → Contains new placed → Contains old placed ⊎ IsTableSynced facts placed.table.number
 
--- The new version is in order, and is the old one after an edit that can be written: that of the plan, which takes its inputs away
--- and puts tables into its output level that the job wrote.
+-- The new version is in order, and is the old one after an edit that can be written: that of the
+-- plan, which takes its inputs away and puts tables into its output level that the job wrote.
 pub record HasJobVersion (cmp : List ℕ → List ℕ → Ordering) (plan : JobPlan) (w : TablesWritten) (old new : Placement) : Type 0 where
   pub edit : List Field
   pub proper : All IsProper edit
@@ -126,8 +129,8 @@ pub record HasPreparedJob {K C : Type 0} (cmp : List ℕ → List ℕ → Orderi
 
 -- ---- what the directory means
 
--- The files are this directory. An edit can be put behind its MANIFEST, no number from `next` on is taken, and the tables are
--- the directory's.
+-- The files are this directory. An edit can be put behind its MANIFEST, no number from `next` on is
+-- taken, and the tables are the directory's.
 pub record IsServed (order : Order) (files : Files) (next : ℕ) (manifest : CurrentManifest) (tables : List PlacedTable) (d : Directory) : Type 0 where
   pub consistent : IsConsistent order files d
   pub number : manifest.number ≡ d.manifest
@@ -136,8 +139,8 @@ pub record IsServed (order : Order) (files : Files) (next : ℕ) (manifest : Cur
   pub free : IsFree order files next
   pub listed : ListsSameTables (placed_in d.tables) tables
 
--- All entries of its inputs have come to the job, which may be replaced by tables of its level; no table of the directory has
--- a number that is the job's. Numbers are drawn below 2^62.
+-- All entries of its inputs have come to the job, which may be replaced by tables of its level; no
+-- table of the directory has a number that is the job's. Numbers are drawn below 2^62.
 pub record CanInstall {K C : Type 0} (order : Order) (deep : List ℕ → Bool) (job : Job K C) (facts : Facts) (next last_sequence : ℕ) (manifest : CurrentManifest) (tables : List PlacedTable)
     (came : List InternalEntry) (d : Directory) (inputs rest : List TableContent) : Type 0 where
   pub served : IsServed order facts.files next manifest tables d
@@ -151,8 +154,8 @@ pub record CanInstall {K C : Type 0} (order : Order) (deep : List ℕ → Bool) 
   pub few : next ≤ 2 ^ 62
   pub used : last_sequence ≡ used_in d
 
--- The files are the same directory, but that outputs at this level, with what must be kept of the inputs, are in their place.
--- Readers see what they saw, and no limit is passed that wasn't.
+-- The files are the same directory, but that outputs at this level, with what must be kept of the
+-- inputs, are in their place. Readers see what they saw, and no limit is passed that wasn't.
 pub record HasInstalled (order : Order) (deep : List ℕ → Bool) (level : ℕ) (snapshots : List ℕ) (old new : Files) (came : List InternalEntry) (d : Directory) (inputs rest : List TableContent) : Type 0 where
   pub outputs : List TableContent
   pub contents : List TableContent
@@ -166,7 +169,8 @@ pub record HasInstalled (order : Order) (deep : List ℕ → Bool) (level : ℕ)
   pub kept : KeepsLogsAndTables old new d (compacted d (d.edits ++ edit ∷ []) next contents)
   pub limits : PassesNoLimit order old d → PassesNoLimit order new (compacted d (d.edits ++ edit ∷ []) next contents)
 
--- Then the MANIFEST ends here, no number from `next` on is taken, and the tables are the directory's.
+-- Then the MANIFEST ends here, no number from `next` on is taken, and the tables are the
+-- directory's.
 pub record IsInstalled (order : Order) (deep : List ℕ → Bool) (level : ℕ) (snapshots : List ℕ) (old new : Files) (next end : ℕ) (tables : List PlacedTable) (came : List InternalEntry) (d : Directory) (inputs rest : List TableContent) : Type 0 where
   pub has : HasInstalled order deep level snapshots old new came d inputs rest
   pub ends : ManifestEndsAt order new d.manifest end (d.edits ++ has.edit ∷ []) has.next

@@ -25,7 +25,8 @@ abbrev pub SameOutputsLaw : Type 0
 SameOutputsLaw = (order : Order) (old new whole after : Files) (w v : TablesWritten) (next : ℕ) → DiffersInTables old whole → IsSameChange old new whole after → IsFree order whole next → HasSameOutputs w old whole
     → ((number : ℕ) → IsOwn v number → IsOwn w number ⊎ ((next ≤ number) × IsNumbered number)) → HasSameOutputs v new after
 
--- A job that writes the table at hand, and tables of numbers that it draws, leaves the other parts of each such directory.
+-- A job that writes the table at hand, and tables of numbers that it draws, leaves the other parts
+-- of each such directory.
 abbrev pub JobWritesEachLaw : Type 0
 JobWritesEachLaw = (order : Order) (old new : Facts) (w : TablesWritten) (next more : ℕ) (d : Directory)
     → IsTrue new.faithful → WritesTables old new (IsMineUpTo w next more) → next ≤ more → more < 2 ^ 64 → AreNumbered w next → OwnsNone w d.layout.tables.items

@@ -23,8 +23,8 @@ use Rattle.compact.specs.Laws.{AreNewerOrDeep}
 use Rattle.compact.specs.Merging.{HaveOwnSequences}
 use Rattle.directory_writes.specs.Replacing.{placed_in, IsPlanned}
 
--- So it is with each plan for a version of a consistent directory, where the keys that tables below the plan's level cover
--- are the deep ones.
+-- So it is with each plan for a version of a consistent directory, where the keys that tables below
+-- the plan's level cover are the deep ones.
 abbrev pub PlannedLaw : Type 0
 PlannedLaw = (order : Order) (files : Files) (d : Directory) (tables : List PlacedTable) (plan : JobPlan) → IsTotalOrder order.cmp → IsAntisymmetric order.cmp
     → IsConsistent order files d → ListsSameTables (placed_in d.tables) tables → AreInOrder order.cmp tables → IsPlanOf order.cmp tables plan
@@ -36,8 +36,8 @@ ClosedPlanLaw = (order : Order) (files : Files) (d : Directory) (tables : List P
     → IsConsistent order files d → ListsSameTables (placed_in d.tables) tables → AreInOrder order.cmp tables → (c : IsPlanFromLevel order.cmp tables plan)
     → AreParted d.tables inputs rest → IsPermutation plan.inputs.items (placed_in inputs) → AreClosedInputs order inputs rest c.level
 
--- A table that a flush puts in meanwhile is one of the rest. Nothing else that is written while the job is under way changes
--- the tables.
+-- A table that a flush puts in meanwhile is one of the rest. Nothing else that is written while the
+-- job is under way changes the tables.
 abbrev pub FlushedPlanLaw : Type 0
 FlushedPlanLaw = (order : Order) (files : Files) (deep : List ℕ → Bool) (plan : JobPlan) (d : Directory) (next : Layout) (content : TableContent) (sealed : List LogContent) (current : LogContent) (inputs rest : List TableContent)
     → IsConsistent order files d → IsFlush d next content sealed current → IsPlanned order deep plan d.tables inputs rest
@@ -48,7 +48,7 @@ abbrev pub PlannedApartLaw : Type 0
 PlannedApartLaw = (order : Order) (files : Files) (deep : List ℕ → Bool) (plan : JobPlan) (d : Directory) (inputs rest : List TableContent)
     → IsConsistent order files d → IsPlanned order deep plan d.tables inputs rest → AreNewerOrDeep (tabled inputs) (tabled rest ++ logged d.logs) deep
 
--- What is merged of such entries has a sequence of its own for each entry of a key.
+-- What is merged of such entries has a sequence number of its own for each entry of a key.
 abbrev pub OwnSequencesLaw : Type 0
 OwnSequencesLaw = (entries : List Entry) (merged : List InternalEntry) → AreDistinct entries
     → ((entry : Entry) → Among (map entry_of merged) entry → Among entries entry) → HaveOwnSequences merged

@@ -10,7 +10,8 @@ use Rattle.engine.specs.Headline.{IsFirst, IsLast}
 use Rattle.engine.specs.internal.Standing.{StandsClosed}
 use Rattle.engine.specs.Stands.{no_ids}
 
--- A first machine of a directory from which the files may come is one that a new session over them may be in.
+-- A first machine of a directory from which the files may come is one that a new session over them
+-- may be in.
 abbrev pub StartsLaw : Type 0
 StartsLaw = (order : Order) (facts : Facts) (ideal : Files) (first : Machine) → ComesFrom order first.damaged facts.files ideal → IsFirst order (with_files facts ideal) first → StandsClosed order facts no_ids first
 

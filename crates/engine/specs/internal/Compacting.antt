@@ -1,4 +1,5 @@
--- A compaction that is under way in an open database (LevelDB's db/db_impl.cc, DBImpl::DoCompactionWork).
+-- A compaction that is under way in an open database (LevelDB's db/db_impl.cc,
+-- DBImpl::DoCompactionWork).
 use Rattle.std.specs.Prelude.{◌≡◌, ◌≤◌, ℕ, ◌++◌, Bool, false, Some, List, map, Contains}
 use Rattle.std.specs.BTreeMap.{BTreeMap}
 use Rattle.compact.specs.Laws.{SeesAsOne}
@@ -20,14 +21,15 @@ use Rattle.db_cursor.specs.Scans.{tables_of}
 use Rattle.db_cursor.specs.Whole.{Whole}
 use Rattle.engine.specs.Reads.{kept_at}
 
--- what it compacts are no entries above this sequence, which is one that it was begun for
+-- what it compacts are no entries above this sequence number, which is one that it was begun for
 pub record IsBegunAt {K : Type 0} {g : _} (work : OpenJob K g) (entries : List InternalEntry) (last reach : ℕ) : Type 0 where
   pub kept : Contains work.job.selection.snapshots reach
   pub used : reach ≤ last
   pub above : AllUpTo reach (map entry_of entries)
 
--- The job is under way over inputs that have the contents of this directory, in which the tables that it wrote have the same files; without
--- damage no block of them is torn. No table that it writes is one of the directory.
+-- The job is under way over inputs that have the contents of this directory, in which the tables
+-- that it wrote have the same files; without damage no block of them is torn. No table that it
+-- writes is one of the directory.
 pub record IsRunningOver {K : Type 0} {g : _} (order : Order) (damaged : Bool) (whole : Whole) (ideal : Files) (next : ℕ) (d : Directory) (work : OpenJob K g) (came left : List InternalEntry) : Type 0 where
   pub inputs : List TableContent
   pub rest : List TableContent
@@ -37,8 +39,9 @@ pub record IsRunningOver {K : Type 0} {g : _} (order : Order) (damaged : Bool) (
   pub same : HasSameOutputs work.job.outputs whole.seen.facts.files ideal
   pub intact : damaged ≡ false → IsMergeIntact order.cmp work.job.cursor whole
 
--- Each snapshot sees of what it compacts what one of the sequences sees for which it was begun: those of the snapshots then, and the last
--- one. No open iterator reads a table that it writes.
+-- Each snapshot sees of what it compacts what one of the sequence numbers sees for which it was
+-- begun: those of the snapshots then, and the last one. No open iterator reads a table that it
+-- writes.
 pub record IsCompacting {K : Type 0} {g : _} (order : Order) (damaged : Bool) (whole : Whole) (ideal : Files) (next : ℕ) (snapshots : BTreeMap ℕ ℕ) (iterators : BTreeMap ℕ (Scan K g)) (d : Directory) (work : OpenJob K g) : Type 0 where
   pub came : List InternalEntry
   pub left : List InternalEntry

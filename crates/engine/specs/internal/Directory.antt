@@ -1,4 +1,5 @@
--- What a directory says to the machine: which map it stands for, and what the next open may meet in it.
+-- What a directory says to the machine: which map it stands for, and what the next open may meet in
+-- it.
 use Rattle.std.specs.Prelude.{◌≡◌, ◌⊎◌, ℕ, ◌+◌, false, MatchOption, List, length, sum_by}
 use Rattle.std.specs.FinMap.{contains_key}
 use Rattle.batch.specs.declared.operation.Operation.{Operation}
@@ -15,8 +16,8 @@ use Rattle.engine.specs.internal.Accounted.{AreAccounted}
 use Rattle.machine.specs.Machine.{Machine, after_batch, current, entry_count, operation_weight, weight}
 use Rattle.ikey.specs.Views.{Contents, IsView}
 
--- The directory is empty or consistent, and stands for this map, with this many sequences used. Its entries are some of so many,
--- which weigh so much.
+-- The directory is empty or consistent, and stands for this map, with this many sequence numbers
+-- used. Its entries are some of so many, which weigh so much.
 pub record Means (order : Order) (files : Files) (map : Contents) (used count weight : ℕ) : Type 0 where
   pub entries : List Entry
   pub spelled : IsDirectory order files entries used

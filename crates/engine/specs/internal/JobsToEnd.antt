@@ -9,7 +9,8 @@ use Rattle.machine.specs.Machine.{Machine, entry_count}
 use Rattle.engine.specs.Outcomes.{KeepsViews}
 use Rattle.engine.specs.internal.Pieces.{IsPiece}
 
--- What a step of a compaction leaves that is done: no call of the store failed, and the database serves on.
+-- What a step of a compaction leaves that is done: no call of the store failed, and the database
+-- serves on.
 pub record ServesOn {K : Type 0} {g : _} (old new : Facts) (before after : OpenDb K g) : Type 0 where
   pub stood : new.failures ≡ old.failures
   pub unwritten : FailsNoWrite old new

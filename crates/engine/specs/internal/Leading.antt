@@ -1,4 +1,5 @@
--- How a call leads from the states that an open database may have been in to those that it may be in.
+-- How a call leads from the states that an open database may have been in to those that it may be
+-- in.
 use Rattle.ikey.specs.Orders.{Order}
 use Rattle.engine.specs.declared.ids.Ids.{Ids}
 use Rattle.machine.specs.Machine.{Machine}

@@ -29,7 +29,7 @@ AreLive Is kept live = (id : ℕ) → IsBoth Is (kept_at kept id) (lookup (nat_e
 
 -- ---- snapshots
 
--- The entries up to this sequence are what the machine has after so many batches.
+-- The entries up to this sequence number are what the machine has after so many batches.
 abbrev pub IsSnapshot : List Entry → ℕ → Machine → ℕ → ℕ → Type 0
 IsSnapshot entries last m sequence count =
     (count ≤ length m.batches) × (sequence ≤ last) × IsView entries sequence (view_at m count)
@@ -39,9 +39,9 @@ AreSnapshots entries last m kept = AreLive (IsSnapshot entries last m) kept m.sn
 
 -- ---- iterators
 
--- Over what the database reads, the iterator goes over the pairs of the machine's, which are such as its tables may have. Without damage no
--- block of them is torn, and where no limit of reading is passed, none of its tables passes one. It reads tables of its version alone, and
--- they are there.
+-- Over what the database reads, the iterator goes over the pairs of the machine's, which are such
+-- as its tables may have. Without damage no block of them is torn, and where no limit of reading is
+-- passed, none of its tables passes one. It reads tables of its version alone, and they are there.
 pub record IsLiveWalk {K : Type 0} {g : _} (cmp : List ℕ → List ℕ → Ordering) (limited damaged : Bool) (whole : Whole) (iterator : Scan K g) (walk : Walk) : Type 0 where
   pub may : MayBeWalk cmp whole iterator walk
   pub limits : limited ≡ false → damaged ≡ false → IsOnePastLimit cmp (tables_of iterator) whole → ⊥

@@ -63,9 +63,10 @@ abbrev pub KeepsTables : Files → Files → Type 0
 KeepsTables old new = (number : ℕ)
     → (get new (name_of (Table number)) ≡ get old (name_of (Table number))) × (get new (name_of (OldTable number)) ≡ get old (name_of (OldTable number)))
 
--- The operations are put behind the log of this name, which ends at `end`, as a batch behind `used` sequences; or,
--- where the device fails, none of them or all of them are there for the next open. Nothing else changes: no other part of the
--- directory, nor where its MANIFEST ends, nor which numbers are free.
+-- The operations are put behind the log of this name, which ends at `end`, as a batch behind `used`
+-- sequence numbers; or, where the device fails, none of them or all of them are there for the next
+-- open. Nothing else changes: no other part of the directory, nor where its MANIFEST ends, nor
+-- which numbers are free.
 pub record Logs (order : Order) (old new : Facts) (log : ℕ) (name : List ℕ) (end used : ℕ) (operations : List Operation) (result : Result ℕ LogError) : Type 0 where
   pub faithful : IsTrue new.faithful → IsTrue old.faithful
   pub failures : old.failures ≤ new.failures
@@ -101,7 +102,8 @@ pub record SyncsThenPuts (names : List (List ℕ)) (old new : Facts) (puts : Fac
   pub synced : SyncsEach done old mid
   pub ends : Idles mid new ⊎ ((done ≡ names) × puts mid)
 
--- The last log of the directory, which has this number, has the operations there as one batch more, or what it had. Nothing else changes.
+-- The last log of the directory, which has this number, has the operations there as one batch more,
+-- or what it had. Nothing else changes.
 pub record HasLastLog (order : Order) (files : Files) (d : Directory) (log used : ℕ) (operations : List Operation) : Type 0 where
   pub before : List LogContent
   pub last : LogContent
@@ -111,7 +113,8 @@ pub record HasLastLog (order : Order) (files : Files) (d : Directory) (log used 
   pub batches : (next.batches ≡ last.batches) ⊎ (next.batches ≡ last.batches ++ (used + 1, operations) ∷ [])
   pub consistent : IsConsistent order files (record d { logs = before ++ next ∷ [] })
 
--- So it is wherever a beginning of these bytes stands behind the log of this name, which ended at `end`.
+-- So it is wherever a beginning of these bytes stands behind the log of this name, which ended at
+-- `end`.
 abbrev pub AddsBatch : Order → Files → ℕ → List ℕ → ℕ → ℕ → List Operation → List ℕ → Type 0
 AddsBatch order old log name end used operations bytes = (files : Files) → AppendsBeginning old files name bytes → (tables : List TableContent) (entries : List Entry) → name ≡ name_of (Log log)
     → (a : CanAppend order old log end tables entries used) → HasLastLog order files a.directory log used operations

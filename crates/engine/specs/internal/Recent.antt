@@ -1,4 +1,5 @@
--- Which of the accepted batches the logs have that this open began, and what the map was behind each of them: what a loss of power may take.
+-- Which of the accepted batches the logs have that this open began, and what the map was behind
+-- each of them: what a loss of power may take.
 use Rattle.std.specs.Prelude.{◌≡◌, ◌⊎◌, Some, ◌≤◌, ◌<◌, ◌+◌, ℕ, List, [], ◌∷◌, ◌++◌, length, take, drop, sum_by}
 use Rattle.std.specs.List.{AllByRecursion}
 use Rattle.batch.specs.declared.operation.Operation.{Operation}
@@ -29,8 +30,9 @@ abbrev pub AreEmptyBehind : List LogContent → Type 0
 AreEmptyBehind [] = Unit {0}
 AreEmptyBehind (log ∷ logs) = AllByRecursion (λ (other : LogContent). other.batches ≡ []) logs
 
--- The logs are those that the open found, whose numbers are below that of its MANIFEST; then those begun since that are synced whole; then those that the
--- device may not have whole, of which all but the first are empty: that which writes go to is always one of them.
+-- The logs are those that the open found, whose numbers are below that of its MANIFEST; then those
+-- begun since that are synced whole; then those that the device may not have whole, of which all
+-- but the first are empty: that which writes go to is always one of them.
 pub record AreParts (facts : Facts) (least : ℕ) (logs : List LogContent) : Type 0 where
   pub found : List LogContent
   pub kept : List LogContent
@@ -47,13 +49,15 @@ HaveSynced facts [] count = count ≡ 0
 HaveSynced facts (log ∷ logs) count =
     (count ≡ 0) ⊎ ((bytes : List ℕ) × (synced : List Batch) × (tail : Tail) × (facts.synced (name_of (Log log.number)) ≡ Some bytes) × IsBatchLog bytes synced tail × (count ≤ length synced) × (count ≤ length log.batches))
 
--- So many of the accepted batches are left whatever a loss of power takes: those in front of these logs, those in logs that are synced whole, and those that are synced of the others.
+-- So many of the accepted batches are left whatever a loss of power takes: those in front of these
+-- logs, those in logs that are synced whole, and those that are synced of the others.
 pub record AreSure (facts : Facts) (from : ℕ) (kept doubted : List LogContent) (count : ℕ) : Type 0 where
   pub others : ℕ
   pub synced : HaveSynced facts doubted others
   pub within : count ≤ from + (length (batches_in kept) + others)
 
--- What was accepted last is in the logs that were begun; and behind each of these batches, and in front of the first, the entries show what the map was.
+-- What was accepted last is in the logs that were begun; and behind each of these batches, and in
+-- front of the first, the entries show what the map was.
 pub record AreRecentOf (facts : Facts) (least : ℕ) (tables : List TableContent) (entries : List Entry) (logs : List LogContent) (base : Contents) (batches : List (List Operation)) (synced used : ℕ) : Type 0 where
   pub parts : AreParts facts least logs
   -- the first of them, and how many operations were accepted in front of it

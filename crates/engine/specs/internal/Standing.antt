@@ -35,14 +35,16 @@ pub record HasCounts (facts : Facts) (m : Machine) : Type 0 where
 abbrev pub HasIds : Ids → Machine → Type 0
 HasIds ids m = (m.last_snapshot ≡ ids.snapshot) × (m.last_iterator ≡ ids.iterator)
 
--- The log that writes go to is the last of the directory, which has these tables, and whose logs have the entries in memory.
+-- The log that writes go to is the last of the directory, which has these tables, and whose logs
+-- have the entries in memory.
 pub record HasLog {K : Type 0} {g : _} (order : Order) (files : Files) (tables : List TableContent) (db : OpenDb K g) : Type 0 where
   pub named : string_bytes db.log.name ≡ name_of (Log db.log.number)
   pub directory : CanAppend order files db.log.number db.log.end tables (logged_in db.memory) db.memory.last
   pub logs : HasLogs directory.directory db.log.number db.memory
   pub knows : KnowsDirectory order files directory.directory db.log.number db.directory
 
--- The version is that of the directory's tables, and what is kept of them in memory is right, and of tables whose numbers were drawn.
+-- The version is that of the directory's tables, and what is kept of them in memory is right, and
+-- of tables whose numbers were drawn.
 pub record HasTables {K : Type 0} {g : _} (order : Order) (source : Seen) (tables : List TableContent) (db : OpenDb K g) : Type 0 where
   pub version : ListsSameTables (map (λ (content : TableContent). content.placed) tables) db.tables
   pub in_order : AreInOrder order.cmp db.tables
@@ -56,8 +58,8 @@ pub record HasEntries (entries : List Entry) (last : ℕ) (contents : Contents) 
   pub view : IsView entries last contents
   pub bounded : AllUpTo last entries
 
--- An open database that isn't broken. Its directory is an undamaged one from which the files may come; what is read of tables is read of
--- the files.
+-- An open database that isn't broken. Its directory is an undamaged one from which the files may
+-- come; what is read of tables is read of the files.
 pub record IsServing {K : Type 0} {g : _} (order : Order) (source : Seen) (db : OpenDb K g) (m : Machine) : Type 0 where
   pub whole : m.broken ≡ false
   pub certain : m.in_doubt ≡ None

@@ -1,4 +1,5 @@
--- A stop is a failure that nobody saw: what a call leaves where the device fails, a stop in its middle leaves too.
+-- A stop is a failure that nobody saw: what a call leaves where the device fails, a stop in its
+-- middle leaves too.
 use Rattle.std.specs.Prelude.{◌≡◌, false, IsTrue}
 use Rattle.store.specs.Files.{Facts, Files}
 use Rattle.store.specs.Stops.{LeavesOnly}
@@ -15,7 +16,8 @@ use Rattle.engine.specs.Reopening.{KeepsFound}
 use Rattle.engine.specs.internal.Directory.{MeansAccepted}
 use Rattle.engine.specs.internal.Standing.{StandsWhole}
 
--- From each state that it may have been in, not broken: a stop since leaves files of which this is so.
+-- From each state that it may have been in, not broken: a stop since leaves files of which this is
+-- so.
 abbrev pub StopsLent : {S K : Type 0} {g : _} → Order → (S → Facts) → Sources K S → DbState K g → Sources K S → (Machine → Files → Type 0) → Type 0
 StopsLent order facts old before new left =
     IsTrue (facts new.tables.store).faithful → (ids : Ids) (m : Machine) → StandsWhole order (seen_of facts old) ids (open_db old.memory before) m → before.broken ≡ false

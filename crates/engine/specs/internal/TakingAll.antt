@@ -13,7 +13,8 @@ use Rattle.engine.specs.Needed.{HasNeeded, live_sequences}
 abbrev pub EndsNeeded : {K : Type 0} {g : _} → Order → Seen → Seen → OpenDb K g → OpenDb K g → Type 0
 EndsNeeded order old new before after = IsTrue new.facts.faithful → (ids : Ids) (m : Machine) → StandsWhole order old ids before m → HasNeeded order new.facts.files (live_sequences after)
 
--- The job takes all tables of the version into the last level, and keeps what is seen at no other sequences than are read at.
+-- The job takes all tables of the version into the last level, and keeps what is seen at no other
+-- sequence numbers than are read at.
 pub record TakesAll {K : Type 0} {g : _} (db : OpenDb K g) (work : OpenJob K g) : Type 0 where
   pub inputs : work.job.plan.inputs.items ≡ db.tables
   pub output : work.job.plan.output_level ≡ 6

@@ -36,7 +36,7 @@ fn an_iterator_reads_a_block_once_it_comes_to_it(rt: HostRuntime) -> Result<(), 
 
 // ---- what is kept
 
-// The table of one entry that has the value 32 put at the key 62 with sequence 2.
+// The table of one entry that has the value 32 put at the key 62 with sequence number 2.
 #[rattlefmt::skip]
 const SECOND_ENTRY: [u8; 176] = [
     0x00, 0x09, 0x01, 0x62, 0x01, 0x02, 0x00, 0x00, 0x00, 0x00, 0x00, 0x00, 0x32, 0x00, 0x00, 0x00,
@@ -52,7 +52,8 @@ const SECOND_ENTRY: [u8; 176] = [
     0x00, 0x00, 0x00, 0x00, 0x00, 0x00, 0x00, 0x00, 0x57, 0xFB, 0x80, 0x8B, 0x24, 0x75, 0x47, 0xDB,
 ];
 
-// Log number 3, next file number 8, last sequence 2; in level 0 the tables 5 and 7, of one entry each. Their blocks lie at offset 0.
+// Log number 3, next file number 8, last sequence number 2; in level 0 the tables 5 and 7, of one
+// entry each. Their blocks lie at offset 0.
 #[rattlefmt::skip]
 pub const LEVEL_ZERO: Files<'static> = &[
     ("CURRENT", b"MANIFEST-000002\n"),
@@ -128,7 +129,8 @@ fn a_block_that_is_kept_is_not_read_again(rt: HostRuntime) -> Result<(), Fail> {
 
 const VALUE_LENGTH: usize = 65_536;
 
-// Adds a pair: the key of this byte, and a value of such bytes. A key that isn't above the last one is the test's fault.
+// Adds a pair: the key of this byte, and a value of such bytes. A key that isn't above the last one
+// is the test's fault.
 fn add_long(
     alloc: Global,
     builder: &mut TableBuilder<Bytewise>,
@@ -143,7 +145,8 @@ fn add_long(
     builder.add(store, &key, &value)
 }
 
-// Writes the table 5 with a pair of each of the 256 keys of one byte, in a block each, and answers its length.
+// Writes the table 5 with a pair of each of the 256 keys of one byte, in a block each, and answers
+// its length.
 fn write_long(alloc: Global, store: &mut MemStore) -> Result<u64, DbError> {
     let mut builder = TableBuilder::new(alloc, "000005.ldb", 1)?;
     for byte in 0..=u8::MAX {
@@ -159,7 +162,7 @@ fn write_long(alloc: Global, store: &mut MemStore) -> Result<u64, DbError> {
 fn of_long_values(alloc: Global) -> Result<MemStore, DbError> {
     let mut store = with_log(alloc, b"", &[])?;
     let length = write_long(alloc, &mut store)?;
-    // log number 3, next file number 6, last sequence 256
+    // log number 3, next file number 6, last sequence number 256
     let mut edit = b"\x02\x03\x03\x06\x04\x80\x02\x07\x06\x05".to_vec(alloc)?;
     put_varint64(&mut edit, length)?;
     edit.extend_from_slice(b"\x09\0\x01\x01\0\0\0\0\0\0\x09\xff\x01\0\x01\0\0\0\0\0")?;

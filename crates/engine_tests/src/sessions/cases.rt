@@ -1,4 +1,4 @@
-// Sessions one behind the other over one store, and what each of them leaves.
+// Sessions one after the other over one store, and what each of them leaves.
 use super::*;
 use recover::{Report, TableSummary};
 
@@ -22,9 +22,10 @@ pub enum Left {
     Names(&'static str),
     // The file of this name has these bytes and no more.
     Bytes(&'static str, &'static [u8]),
-    // A check finds the directory consistent, with these tables: the level and the number of each, and how many entries it has.
+    // A check finds the directory consistent, with these tables: the level and the number of each,
+    // and how many entries it has.
     Tables(&'static [(u32, u64, u64)]),
-    // A check finds that this is the last sequence used.
+    // A check finds that this is the last sequence number used.
     LastSequence(u64),
     // A check refuses the directory so.
     Refused(DbError),

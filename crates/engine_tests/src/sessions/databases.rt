@@ -7,7 +7,7 @@ use engine::Mode::New;
 use engine::{Db, Ids, OpenError, Progress};
 use std::test::Fail;
 
-// Each is the least of its range, so that a memory table is sealed with its first entry.
+// Each is the least of its range, so that a memtable is sealed with its first entry.
 const LEAST: Sizes = [1, 1, 1, 1, 1, 1];
 
 #[test]
@@ -82,7 +82,7 @@ const FIRST_IDS: Ids = Ids {
     iterator: 5,
 };
 
-// Whether it answers, and the store and the ids that it gives back.
+// Whether it answers, and the store and the ids that it returns.
 fn served(alloc: Global) -> Result<(bool, MemStore, Ids), Fail> {
     let mut database = written(alloc, FIRST_IDS)?;
     let answers = answers(alloc, &mut database);
@@ -127,7 +127,7 @@ fn gives_no_id(alloc: Global, database: &mut Db<MemStore, Bytewise>) -> bool {
         && matches!(database.iter(alloc, Some(1)), Err(DbError::NoSnapshot))
 }
 
-// Whether a database of these ids does so, and the ids that it gives back.
+// Whether a database of these ids does so, and the ids that it returns.
 fn given_none(alloc: Global) -> Result<(bool, Ids), Fail> {
     let mut database = database(alloc, DEFAULTS, LAST_IDS)?;
     let gives_no_id = gives_no_id(alloc, &mut database);
@@ -167,8 +167,8 @@ fn gives_the_next_ids(alloc: Global, database: &mut Db<MemStore, Bytewise>) -> b
         && matches!(database.iter_release(9), Err(DbError::NoIterator))
 }
 
-// Whether a database whose last ids given were 4 and 7 moves an iterator, whether it gave the ids that are next, and the last ones
-// that it gave.
+// Whether a database whose last ids given were 4 and 7 moves an iterator, whether it gave the ids
+// that are next, and the last ones that it gave.
 fn viewed(alloc: Global) -> Result<(bool, bool, Ids), Fail> {
     let ids = Ids {
         snapshot: 4,

@@ -1,5 +1,5 @@
-// A long session of drawn commands beside a plain model, under options so small that compactions into several levels run all
-// the time.
+// A long session of drawn commands beside a plain model, under options so small that compactions
+// into several levels run all the time.
 mod model;
 
 use super::*;
@@ -12,7 +12,8 @@ const SIZES: Sizes = [200, 64, 300, 2, 50, 16];
 
 const COMMANDS: u64 = 4_050;
 
-// Whether the session answers as the model says. Where that says that work was done, there may have been none to do.
+// Whether the session answers as the model says. Where that says that work was done, there may have
+// been none to do.
 fn is_answered(
     alloc: Global,
     session: &mut Session<MemStore, Bytewise>,
@@ -25,7 +26,8 @@ fn is_answered(
     answer == wanted || answer == Answer::Idle && wanted == Answer::Worked
 }
 
-// Gives the drawn commands, and says how many were answered as the model says before one that wasn't.
+// Gives the drawn commands, and says how many were answered as the model says before one that
+// wasn't.
 fn drawn(alloc: Global, session: &mut Session<MemStore, Bytewise>, model: &mut Model) -> u64 {
     for number in 0..COMMANDS {
         let step = model.draw_step(alloc);
@@ -74,7 +76,8 @@ fn all(alloc: Global, session: &mut Session<MemStore, Bytewise>, model: &mut Mod
     answered.saturating_add(2)
 }
 
-// How many commands were answered as the model says, the open first and the walk at the end last, and what is left.
+// How many commands were answered as the model says, the open first and the walk at the end last,
+// and what is left.
 fn after_history(alloc: Global) -> Result<(u64, MemStore), Fail> {
     let mut model = Model::new(alloc);
     let mut session = session(alloc, MemStore::new(alloc), SIZES)?;
@@ -82,8 +85,8 @@ fn after_history(alloc: Global) -> Result<(u64, MemStore), Fail> {
     Ok((answered, session.into_store()))
 }
 
-// Level 0 is below its limit, a deeper one than 1 has tables, and no file is left beside the tables, the live logs, `CURRENT`, `LOCK`
-// and the MANIFEST.
+// Level 0 is below its limit, a deeper one than 1 has tables, and no file is left beside the
+// tables, the logs in use, `CURRENT`, `LOCK` and the MANIFEST.
 fn are_tidy(files: usize, summary: &Summary) -> bool {
     let tables = &summary.tables;
     let high = count_of(tables, 1).saturating_add(count_of(tables, 0));

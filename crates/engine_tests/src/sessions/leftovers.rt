@@ -25,7 +25,8 @@ const THREE_TIMES_WITH_AN_ENTRY: &[Line<'static>] = &[
     ("close", "ok"),
 ];
 
-// A database of no entries, whose log number is 2, beside files of all known shapes that aren't live, and files of other programs.
+// A database of no entries, whose log number is 2, beside obsolete files of all known shapes, and
+// files of other programs.
 const LITTERED: Files<'static> = &[
     ("CURRENT", b"MANIFEST-000005\n"),
     (

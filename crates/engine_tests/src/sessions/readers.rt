@@ -1,4 +1,5 @@
-// Readers: they answer as sessions do over the same files, and never ask for more than to read them.
+// Readers: they answer as sessions do over the same files, and never ask for more than to read
+// them.
 ghost use Rattle.std.specs.Prelude.{◌≡◌};
 ghost use Rattle.store.specs.MemFacts.{mem_facts};
 
@@ -13,8 +14,8 @@ use reader::{Movement, ReadOnly, Reader, ReaderWalk};
 use std::num::NonZeroUsize;
 use store::{StoreError, Trouble};
 
-// Files in memory that no call may change: one that would is noted, and fails, since a file is removed that isn't there. So is noted what
-// asks for the lock.
+// Files in memory that no call may change: one that would is noted, and fails, since a file is
+// removed that isn't there. So is noted what asks for the lock.
 #[derive(Drop)]
 struct Untouched {
     inner: MemStore,
@@ -180,7 +181,8 @@ fn answers_of(
     Ok(answers)
 }
 
-// Asks a reader of these files all that a script asks, and says how often it would have changed something, or asked for the lock.
+// Asks a reader of these files all that a script asks, and says how often it would have changed
+// something, or asked for the lock.
 fn asked_for(
     rt: &(impl Abort + AllocGlobal),
     files: Files<'_>,
@@ -246,7 +248,8 @@ fn is_device(answer: Result<(), StoreError>) -> bool {
     matches!(answer, Err(StoreError::Device))
 }
 
-// Whether each call that would change something, or asks for the lock, fails and is counted, though the store within has the file.
+// Whether each call that would change something, or asks for the lock, fails and is counted, though
+// the store within has the file.
 fn refuses(store: &mut ReadOnly<Untouched>) -> bool {
     is_device(store.create("CURRENT"))
         && is_device(store.append("CURRENT", b"x"))

@@ -1,13 +1,13 @@
-// What is answered, and what is left, where any one call of the store is refused, while compactions are under way and in those that
-// are one command.
+// What is answered, and what is left, if any one call of the store fails, while compactions are
+// under way and in those that are one command.
 use super::*;
 use crate::watching::WatchedStore;
 use batch::Operation;
 use recover::{Report, TableSummary};
 use std::test::Fail;
 
-// A memory table is sealed with its first entry, level 0 is compacted from two files on, level 1 above 100 bytes, and each key
-// has a file of its own.
+// A memtable is sealed with its first entry. Level 0 is compacted from two files on, level 1 above
+// 100 bytes, and each key has a file of its own.
 const SIZES: Sizes = [1, 64, 1, 2, 100, 16];
 
 const OPEN: &[&str] = &["open any"];
@@ -16,7 +16,7 @@ const READ: &[&str] = &["get 61", "get 62", "get 63", "get 64"];
 
 const WORK: &[&str] = &["work 1", "work 1", "work 1"];
 
-// All commands but those behind a close, in pieces.
+// All commands but those after a close, in pieces.
 const PIECES: &[&[&str]] = &[
     OPEN,
     &["put 61 31"],
@@ -69,8 +69,9 @@ enum End {
     Wrong,
 }
 
-// The number of the call that is refused; the first bytes of key and value of each put that was done; whether the call came; whether
-// the database has answered since that it is broken; and whether a piece of work was refused before it did.
+// The number of the call that fails; the first bytes of key and value of each put that was done;
+// whether the call came. Then whether the database has answered since that it is broken, and
+// whether a piece of work failed before it did.
 #[derive(Drop)]
 struct Record {
     refused: u64,
@@ -124,8 +125,8 @@ impl Record {
         }
     }
 
-    // What becomes of a command that was answered behind so many calls: it is answered as if no call was refused; or by Io, where the
-    // call comes in it; or by Broken, from some command on.
+    // What becomes of a command that was answered after so many calls: it is answered as if no call
+    // failed; by Io, if the call comes in it; or by Broken, from some command on.
     fn outcome(&mut self, calls: u64, op: &Op, answer: &Answer) -> Outcome {
         let had_come = self.has_come;
         match answer {
@@ -290,7 +291,8 @@ fn whole(
     }
 }
 
-// How a session of which the call of this number is refused ends, how many calls came before it was closed, and what it leaves.
+// How a session of which the call of this number is refused ends, how many calls came before it was
+// closed, and what it leaves.
 fn after_run(alloc: Global, refused: u64) -> Result<(End, u64, MemStore), Fail> {
     let mut record = Record::new(alloc, refused);
     let store = WatchedStore::refusing(MemStore::new(alloc), refused);
@@ -299,7 +301,8 @@ fn after_run(alloc: Global, refused: u64) -> Result<(End, u64, MemStore), Fail> 
     Ok((end, calls, session.into_store().into_inner()))
 }
 
-// Level 0 is below its limit, and no file is left beside those of the tables, `CURRENT`, `LOCK`, the MANIFEST and a log.
+// Level 0 is below its limit, and no file is left beside those of the tables, `CURRENT`, `LOCK`,
+// the MANIFEST and a log.
 fn are_tidy(files: usize, tables: &[TableSummary]) -> bool {
     files.checked_sub(4) == Some(tables.len()) && count_of(tables, 0) < 2
 }

@@ -33,7 +33,7 @@ fn tables_in(alloc: Global, store: &mut MemStore) -> Result<(usize, u64), DbErro
     Ok(found)
 }
 
-// The tables behind one batch of all entries, which is flushed, and then compacted where that is asked for.
+// The tables after one batch of all entries, which is flushed, and then compacted if asked.
 fn tables_after(alloc: Global, sizes: Sizes, compacts: bool) -> Result<(usize, u64), Fail> {
     let mut session = session(alloc, MemStore::new(alloc), sizes)?;
     let ops = [
@@ -47,14 +47,14 @@ fn tables_after(alloc: Global, sizes: Sizes, compacts: bool) -> Result<(usize, u
     if compacts {
         given(alloc, &mut session, &Op::CompactAll);
     }
-    // (which removes what is of no use any more)
+    // (which removes obsolete files)
     given(alloc, &mut session, &Op::Work(1));
     let mut store = session.into_store();
     Ok(tables_in(alloc, &mut store)?)
 }
 
-// Options, whether all is compacted, how many tables there are then, and the least and the most bytes that they have: with a block for
-// each entry they have a third more.
+// Options, whether all is compacted, how many tables there are then, and the least and the most
+// bytes that they have. With a block for each entry they have a third more.
 const CASES: &[(Sizes, bool, usize, u64, u64)] = &[
     (EAGER, false, 1, 6_500, 7_500),
     (

@@ -4,8 +4,9 @@ use super::*;
 use coding::{Damage, Feature, FileKind};
 use std::test::Fail;
 
-// LevelDB made this directory: it put a, b, c and e, compacted them into level 1, put b and d and deleted c, put a again,
-// and made a table of level 0 of each of the last two at its next opens.
+// LevelDB made this directory. It put a, b, c and e, and compacted them into level 1. It put b and
+// d and deleted c, and put a again. It made a table of level 0 of each of the last two at its next
+// opens.
 #[rattlefmt::skip]
 pub const LEVELS: &[(&str, &[u8])] = &[
     ("CURRENT", b"MANIFEST-000018\n"),
@@ -42,7 +43,7 @@ pub const READ: &[Line<'static>] = &[
     ("seek 1 6565", "end"),
 ];
 
-// What is written lies in front of the tables, for whoever reads later, now and after the next open.
+// What is written comes before the tables, for whoever reads later, now and after the next open.
 const WRITTEN: &[Line<'static>] = &[
     ("open", "ok"),
     ("iter", "iter 1"),
@@ -104,8 +105,8 @@ const WHOLE: &[Line<'static>] = &[
     ("get 62", "value 32"),
 ];
 
-// The block that is met answers so in the call that meets it, and the others go on answering. A move backwards looks at the entry
-// in front, for whether it is of the same key.
+// The block that is met answers so in the call that meets it, and the others go on answering. A
+// move backwards looks at the entry in front, for whether it is of the same key.
 pub const BESIDE_DAMAGE: &[Line<'static>] = &[
     ("open", "ok"),
     ("get 61", "refused Corrupt(Table, Checksum)"),
@@ -134,7 +135,7 @@ pub const BESIDE_A_COMPRESSED_BLOCK: &[Line<'static>] = &[
     ("next 1", "end"),
 ];
 
-// Its edit: log number 3, next file number 6, last sequence 2; the table 5 of level 6.
+// Its edit: log number 3, next file number 6, last sequence number 2; the table 5 of level 6.
 #[rattlefmt::skip]
 const FILTERED_MANIFEST: &[u8] = b"\x8f\xdf.\xd5\x1f\x00\x01\x02\x03\x03\x06\x04\x02\x07\x06\x05\xdc\x01\x09a\x01\x01\x00\x00\x00\x00\x00\x00\x09b\x01\x02\x00\x00\x00\x00\x00\x00";
 

@@ -15,8 +15,8 @@ const FLUSHED: &[Line<'static>] = &[
     ("close", "ok"),
 ];
 
-// The edit of its flush stands behind that of the new database: log 3, next file 5, last sequence 1, the table 4 of level 0 with 176
-// bytes, from `a` at 1 to `a` at 1.
+// The edit of its flush follows that of the new database: log 3, next file 5, last sequence number
+// 1, and the table 4 of level 0 with 176 bytes, from `a` at 1 to `a` at 1.
 #[rattlefmt::skip]
 const MANIFEST: &[u8] = b"S&\xfe[\x22\x00\x01\x01\x1aleveldb.BytewiseComparator\x02\x02\x03\x03\x04\x00\xe8\x99\xd3@\x1f\x00\x01\x02\x03\x03\x05\x04\x01\x07\x00\x04\xb0\x01\x09a\x01\x01\x00\x00\x00\x00\x00\x00\x09a\x01\x01\x00\x00\x00\x00\x00\x00";
 
@@ -34,7 +34,7 @@ const OPENED_AGAIN: &[Line<'static>] = &[
     ("work 1", "idle"),
 ];
 
-// What was taken before a seal, between it and its flush, and behind both, sees what it saw.
+// What was taken before a seal, between it and its flush, and after both, sees what it saw.
 const VIEWS: &[Line<'static>] = &[
     ("open new", "ok"),
     ("put 61 31", "ok"),
@@ -76,7 +76,8 @@ const VIEWS: &[Line<'static>] = &[
     ("close", "ok"),
 ];
 
-// The entries that an open finds in the logs are sealed, and the first piece of work writes them into a table.
+// The entries that an open finds in the logs are sealed, and the first piece of work writes them
+// into a table.
 const FOUND: &[Line<'static>] = &[
     ("open new", "ok"),
     ("put 61 31", "ok"),

@@ -15,7 +15,7 @@ ranked_cmp cmp = then_cmp (on (λ (one : Ranked). one.key.now) cmp) (flip_args (
 abbrev pub no_entry : Entry
 no_entry = record { key = []; sequence = 0; value = None }
 
--- the key and the sequence are those of the entry that has the number
+-- the key and the sequence number are those of the entry that has the number
 abbrev pub HasRank : List Entry → Ranked → Type 0
 HasRank entries one =
     ((get_or entries (one.number - 1) no_entry).key ≡ one.key.now) × ((get_or entries (one.number - 1) no_entry).sequence ≡ one.sequence)

@@ -1,4 +1,5 @@
--- What an open has before its database is made, and what it leaves of the directory (LevelDB's db/db_impl.cc, DB::Open).
+-- What an open has before its database is made, and what it leaves of the directory (LevelDB's
+-- db/db_impl.cc, DB::Open).
 use Rattle.std.specs.Prelude.{◌≡◌, ◌≢◌, ◌⊎◌, ◌<◌, ◌≤◌, ◌+◌, ◌^◌, ℕ, zero, suc, true, IsSome, IsTrue, List, [], ◌∷◌, map, string_bytes}
 use Rattle.std.specs.List.{flat_map}
 use Rattle.std.specs.FinMap.{contains_key}
@@ -25,7 +26,8 @@ use Rattle.opening.specs.internal.Directories.{IsDirectoryOf, CanAppend}
 use Rattle.opening.specs.internal.Knowing.{HasLogs, KnowsDirectory}
 use Rattle.opening.specs.internal.Opening.{AllowsFiles}
 
--- Over any store: the log is an empty one under its name, the tables are in order, and the sequences fit.
+-- Over any store: the log is an empty one under its name, the tables are in order, and the
+-- sequence numbers fit.
 pub record IsBegun {K : Type 0} (order : Order) (begun : Begun K) : Type 0 where
   pub named : string_bytes begun.log.name ≡ name_of (Log begun.log.number)
   pub empty : begun.log.end ≡ 0
@@ -34,8 +36,8 @@ pub record IsBegun {K : Type 0} (order : Order) (begun : Begun K) : Type 0 where
   -- nothing is read beside what the logs have
   pub written : begun.memory.current.inserts ≡ []
 
--- What a directory says is in memory: the entries of its logs, the last sequence and the tables. A record can be put behind
--- the new log.
+-- What a directory says is in memory: the entries of its logs, the last sequence number and the
+-- tables. A record can be put behind the new log.
 pub record HasBegun {K : Type 0} (order : Order) (files : Files) (begun : Begun K) (tables : List TableContent) (entries : List Entry) (used : ℕ) : Type 0 where
   pub inserts : logged_in begun.memory ≡ entries
   pub last : begun.memory.last ≡ used
@@ -68,8 +70,9 @@ pub record IsFront (found : Found) (names : List (List ℕ)) : Type 0 where
   pub none : found.entries.items ≡ [] → names ≡ []
   pub all : found.entries.items ≢ [] → names ≡ names_of_logs found.logs.items
 
--- Which of the logs that the next open reads the device may not have whole, and that an open leaves tables alone: those that are there, and
--- all logs but the new one, have numbers below that of its MANIFEST; the new one is above it.
+-- Which of the logs that the next open reads the device may not have whole, and that an open leaves
+-- tables alone: those that are there, and all logs but the new one, have numbers below that of its
+-- MANIFEST; the new one is above it.
 pub record BeginsSynced (old new : Facts) (log : CurrentLog) (state : DirectoryState) : Type 0 where
   pub logs : AreInDoubt new.files log state
   pub tables : SparesTables old new

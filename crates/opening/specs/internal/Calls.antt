@@ -7,7 +7,8 @@ use Rattle.store.specs.Files.{Facts, Files, Locks, MayLock}
 use Rattle.edits.specs.Names.{name_of}
 use Rattle.edits.specs.declared.names.FileName.TheVariants.{Current}
 
--- A call of the store: it is refused for want of memory, or since the store failed, which was counted.
+-- A call of the store: it is refused for want of memory, or since the store failed, which was
+-- counted.
 pub record Attempts {T : Type 0} (old new : Facts) (result : Result T DbError) : Type 0 where
   pub faithful : IsTrue new.faithful → IsTrue old.faithful
   pub failures : old.failures ≤ new.failures
@@ -24,7 +25,8 @@ RefusesLock Io old new = old.failures < new.failures
 RefusesLock Locked old new = old.denials < new.denials
 RefusesLock _ old new = ⊥
 
--- The lock was asked for. Held or not, its file may have been made; where it is held, the file is there.
+-- The lock was asked for. Held or not, its file may have been made; where it is held, the file is
+-- there.
 pub record TakesLock (old new : Facts) (result : Result (Unit {0}) DbError) : Type 0 where
   pub faithful : IsTrue new.faithful → IsTrue old.faithful
   pub failures : old.failures ≤ new.failures

@@ -14,7 +14,8 @@ use Rattle.store.specs.Files.{Facts, Files}
 abbrev pub ReadsNone : Files → Directory → (List ℕ → Type 0) → Type 0
 ReadsNone files d mine = (name : List ℕ) → IsReadIn files d name ⊎ IsLogIn d name → mine name → ⊥
 
--- All that it reads is synced whole but for its logs, and for tables that the loss has left whole, if it has left them.
+-- All that it reads is synced whole but for its logs, and for tables that the loss has left whole,
+-- if it has left them.
 pub record AreLeft (facts : Facts) (d : Directory) (lost : Files) : Type 0 where
   pub current : IsKept facts (name_of Current)
   pub manifest : IsKept facts (name_of (Manifest d.manifest))

@@ -7,14 +7,15 @@ use Rattle.recover.specs.Directory.{Directory, IsConsistent, IsEmpty, EndsAt, us
 use Rattle.recover.specs.Logs.{logged}
 use Rattle.recover.specs.Tables.{TableContent}
 
--- The files are a directory that is empty or consistent, with these tables, these entries in its logs, and these used
--- sequences.
+-- The files are a directory that is empty or consistent, with these tables, these entries in its
+-- logs, and these used sequence numbers.
 abbrev pub IsDirectoryOf : Order → Files → List TableContent → List Entry → ℕ → Type 0
 IsDirectoryOf order files tables entries used =
     (IsEmpty files × (tables ≡ []) × (entries ≡ []) × (used ≡ 0))
     ⊎ ((d : Directory) × IsConsistent order files d × (tables ≡ d.tables) × (entries ≡ logged d.logs) × (used ≡ used_in d))
 
--- They are a consistent one, and a record can be put behind the log of this number, which ends at this position.
+-- They are a consistent one, and a record can be put behind the log of this number, which ends at
+-- this position.
 pub record CanAppend (order : Order) (files : Files) (log position : ℕ) (tables : List TableContent) (entries : List Entry) (used : ℕ) : Type 0 where
   pub directory : Directory
   pub consistent : IsConsistent order files directory

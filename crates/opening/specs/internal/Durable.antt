@@ -15,7 +15,8 @@ IsSpared name = (file : FileName) → IsFileName file → file ≢ Lock → name
 abbrev pub Spares : Facts → Facts → Type 0
 Spares old new = (name : List ℕ) → IsSpared name → LeavesFile old new name
 
--- The name of a file that an open doesn't write which draws this number: not `CURRENT`, nor its MANIFEST, its log or the temporary file.
+-- The name of a file that an open doesn't write which draws this number: not `CURRENT`, nor its
+-- MANIFEST, its log or the temporary file.
 pub record IsBeside (n : ℕ) (name : List ℕ) : Type 0 where
   pub current : name ≢ name_of Current
   pub manifest : name ≢ name_of (Manifest n)

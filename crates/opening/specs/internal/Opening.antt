@@ -1,5 +1,5 @@
--- What an open finds in a directory, what it writes, and what that leaves (LevelDB's db/db_impl.cc, DBImpl::Recover
--- and DBImpl::NewDB).
+-- What an open finds in a directory, what it writes, and what that leaves (LevelDB's db/db_impl.cc,
+-- DBImpl::Recover and DBImpl::NewDB).
 use Rattle.std.specs.Prelude.{◌≡◌, ◌≢◌, ◌⊎◌, ◌<◌, ◌≤◌, ◌+◌, ◌^◌, ℕ, true, false, IsTrue, List, [], ◌∷◌, ◌++◌, Result, IfOk, string_bytes}
 use Rattle.std.specs.List.{AllByRecursion}
 use Rattle.std.specs.FinMap.{contains_key}
@@ -127,16 +127,16 @@ pub record IsKnownAfter (found : Found) (name : List ℕ) (end : ℕ) (state : D
   pub next : state.numbers.next ≡ found.number + 2
   pub logs : KeepsLogs found state.first_log state.previous_log
 
--- What an open leaves of a directory, wherever it ended: what it says, `CURRENT`, which file numbers are free but for the
--- two that it may have drawn, and that no limit of reading is passed.
+-- What an open leaves of a directory, wherever it ended: what it says, `CURRENT`, which file
+-- numbers are free but for the two that it may have drawn, and that no limit of reading is passed.
 pub record IsContinued (order : Order) (old new : Files) : Type 0 where
   pub meaning : (tables : List TableContent) (entries : List Entry) (used : ℕ) → IsDirectoryOf order old tables entries used → IsDirectoryOf order new tables entries used
   pub made : contains_key old (name_of Current) ≡ true → contains_key new (name_of Current) ≡ true
   pub free : (m : ℕ) → IsFree order old m → IsFree order new (m + 2)
   pub limits : (tables : List TableContent) (entries : List Entry) (used : ℕ) → IsDirectoryOf order old tables entries used → IsWithinLimits order old → IsWithinLimits order new
 
--- A record can be put behind the new log, which is empty and behind logs with all entries, and an edit behind the new MANIFEST, which
--- is current, has this length, and says which logs are live.
+-- A record can be put behind the new log, which is empty and behind logs with all entries, and an
+-- edit behind the new MANIFEST, which is current, has this length, and says which logs are live.
 pub record HasRewritten (order : Order) (files : Files) (found : Found) (end : ℕ) (tables : List TableContent) (entries : List Entry) (used : ℕ) : Type 0 where
   pub log : CanAppend order files (found.number + 1) 0 tables entries used
   pub before : List LogContent

@@ -1,4 +1,5 @@
--- What an open does to the store, one call behind the other: each step behind the one in front of it, where that was done, or the calls ended there.
+-- What an open does to the store, one call behind the other: each step behind the one in front of
+-- it, where that was done, or the calls ended there.
 use Rattle.std.specs.Prelude.{◌≡◌, ◌⊎◌, ◌+◌, ℕ, false, List, [], Some, string_bytes}
 use Rattle.std.specs.FinMap.{get, contains_key}
 use Rattle.store.specs.Calls.{Adds, Idles}
@@ -62,7 +63,8 @@ StartsNew old new name = Idles old new ⊎ ((made : Facts) × Adds old made (Cre
 abbrev pub Makes : Facts → Facts → List ℕ → Type 0
 Makes old new name = OnlyIt old new name × (Idles old new ⊎ Adds old new (Creation name))
 
--- A new MANIFEST was written, made first where there was none of its name, then `CURRENT` was set, and then a log was made; or the calls ended before.
+-- A new MANIFEST was written, made first where there was none of its name, then `CURRENT` was set,
+-- and then a log was made; or the calls ended before.
 pub record Renews (old new : Facts) (manifest content temporary current log : List ℕ) : Type 0 where
   pub mid : Facts
   pub only : OnlyIt old mid manifest

@@ -15,8 +15,9 @@ use Rattle.machine.specs.Causes.{Motion, ToFirst, ToLast, ToKey, ToNext, ToPrev}
 abbrev pub walked_of : Walk → Walked
 walked_of walk = record { pairs = map listed_pair walk.pairs; place = walk.place }
 
--- Over what the database reads, up to the last sequence, the iterator goes over the pairs of the machine's, and stands at its place.
--- Where nothing passes a limit of reading, none of its tables does. It reads tables of its version alone, and they are there.
+-- Over what the database reads, up to the last sequence number, the iterator goes over the pairs of
+-- the machine's, and stands at its place. Where nothing passes a limit of reading, none of its
+-- tables does. It reads tables of its version alone, and they are there.
 pub record IsWalk {K : Type 0} {g : _} (cmp : List ℕ → List ℕ → Ordering) (limited : Bool) (whole : Whole) (iterator : Scan K g) (walk : Walk) : Type 0 where
   pub bound : iterator.walk.sequence ≤ whole.memory.last
   pub scan : IsScan cmp iterator whole (walked_of walk)

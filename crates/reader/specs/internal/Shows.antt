@@ -1,4 +1,4 @@
--- What a reader answers from: the map of a directory at its last sequence.
+-- What a reader answers from: the map of a directory at its last sequence number.
 use Rattle.std.specs.Prelude.{◌≡◌, ◌++◌, List, IsTrue}
 use Rattle.ikey.specs.Orders.{Order}
 use Rattle.ikey.specs.Sources.{IsNewerThan, joined}
@@ -17,8 +17,9 @@ use Rattle.table_access.specs.Tables.{IsSound}
 use Rattle.version_laws.specs.Places.{MayHaveVersion, table_sources}
 use Rattle.db_cursor.specs.Whole.{Whole}
 
--- The files are a consistent directory, whose tables these are, and whose logs' entries are in memory; what is kept of its tables is
--- right; and this is what all its entries put, up to the last sequence used.
+-- The files are a consistent directory, whose tables these are, and whose logs' entries are in
+-- memory; what is kept of its tables is right; and this is what all its entries put, up to the last
+-- sequence number used.
 pub record Shows (order : Order) (whole : Whole) (tables : List PlacedTable) (map : Contents) : Type 0 where
   pub directory : Directory
   pub consistent : IsConsistent order whole.seen.facts.files directory
@@ -29,8 +30,9 @@ pub record Shows (order : Order) (whole : Whole) (tables : List PlacedTable) (ma
   pub last : whole.memory.last ≡ used_in directory
   pub view : IsView (entries_in directory) (used_in directory) map
 
--- As far as their blocks tell, the files may be tables of these, than which what is in memory is newer; what is kept of them is right; and
--- this is what the entries that they may have, and those in memory, put up to the last sequence used.
+-- As far as their blocks tell, the files may be tables of these, than which what is in memory is
+-- newer; what is kept of them is right; and this is what the entries that they may have, and those
+-- in memory, put up to the last sequence number used.
 pub record MayShow (order : Order) (whole : Whole) (tables : List PlacedTable) (map : Contents) : Type 0 where
   pub contents : List TableContent
   pub sound : IsSound order.cmp whole.seen
@@ -38,8 +40,8 @@ pub record MayShow (order : Order) (whole : Whole) (tables : List PlacedTable) (
   pub newer : IsNewerThan (logged_in whole.memory) (joined (table_sources contents))
   pub view : IsView (logged_in whole.memory ++ joined (table_sources contents)) whole.memory.last map
 
--- What was read of these files, whatever their tables hold: the directory's tables are listed, its logs' entries are in memory, and what is
--- kept of tables is right.
+-- What was read of these files, whatever their tables hold: the directory's tables are listed, its
+-- logs' entries are in memory, and what is kept of tables is right.
 pub record HoldsRead (order : Order) (files : Files) (whole : Whole) (tables : List PlacedTable) : Type 0 where
   pub recovered : Recovered
   pub read : Recovers order files recovered

@@ -1,4 +1,5 @@
--- What a database with tables does to its directory, and what that leaves of the meaning (LevelDB's doc/impl.md).
+-- What a database with tables does to its directory, and what that leaves of the meaning (LevelDB's
+-- doc/impl.md).
 use Rattle.std.specs.Prelude.{◌≡◌, ◌≢◌, ◌⊎◌, ◌<◌, ◌≤◌, ◌+◌, ℕ, true, Some, List, [], ◌∷◌, ◌++◌, if◌then◌else◌, length, take, map}
 use Rattle.std.specs.FinMap.{get, insert, contains_key}
 use Rattle.std.specs.Cmp.{IsTotalOrder}
@@ -41,7 +42,8 @@ pub record IsExtended (d e : Directory) (more : List Entry) : Type 0 where
   pub number : next.number ≡ last.number
   pub entries : batch_entries next.batches ≡ batch_entries last.batches ++ more
 
--- A whole record for the next batch behind the last log adds its entries there, and changes no other part.
+-- A whole record for the next batch behind the last log adds its entries there, and changes no
+-- other part.
 abbrev pub ExtendLaw : Type 0
 ExtendLaw = (order : Order) (files : Files) (d : Directory) (log position : ℕ) (operations : List Operation) (payload added before : List ℕ)
     → IsConsistent order files d → EndsAt files d log position → get files (name_of (Log log)) ≡ Some before
@@ -50,7 +52,8 @@ ExtendLaw = (order : Order) (files : Files) (d : Directory) (log position : ℕ)
     × EndsAt (insert files (name_of (Log log)) (before ++ added)) e log (position + length added)
     × IsExtended d e (entries_of (used_in d + 1) operations) × (used_in e ≡ used_in d + length operations)
 
--- A beginning of its bytes changes no part but the last log, which ends otherwise, or has all of the batch's entries.
+-- A beginning of its bytes changes no part but the last log, which ends otherwise, or has all of
+-- the batch's entries.
 abbrev pub FailedExtendLaw : Type 0
 FailedExtendLaw = (order : Order) (files : Files) (d : Directory) (log position n : ℕ) (operations : List Operation) (payload added before : List ℕ)
     → IsConsistent order files d → EndsAt files d log position → get files (name_of (Log log)) ≡ Some before
@@ -103,7 +106,8 @@ pub record AgreeBeside (old new : Files) (d : Directory) : Type 0 where
   pub logs : (n : ℕ) → IsNumbered n → IsLive d.layout n → get new (name_of (Log n)) ≡ get old (name_of (Log n))
   pub tables : (content : TableContent) → InTables d.tables content → table_at new content.placed.table.number ≡ table_at old content.placed.table.number
 
--- Where the MANIFEST says the same as before, so do these parts, however the bytes end behind its edits.
+-- Where the MANIFEST says the same as before, so do these parts, however the bytes end behind its
+-- edits.
 abbrev pub SameManifestLaw : Type 0
 SameManifestLaw = (order : Order) (old new : Files) (d : Directory) → IsConsistent order old d
     → HasManifest order new d.manifest d.edits d.layout → AgreeBeside old new d → IsConsistent order new d
@@ -115,8 +119,9 @@ abbrev pub with_content : TableContent → List TableContent → List TableConte
 with_content new [] = new ∷ []
 with_content new (content ∷ contents) = if is_before new.placed content.placed then new ∷ content ∷ contents else content ∷ with_content new contents
 
--- The layout is that of a flush: what was logged before the current log is in a new table of level 0 instead, whose
--- number is above those of all tables, and the log number is the current log's. All used sequences are recorded.
+-- The layout is that of a flush: what was logged before the current log is in a new table of level
+-- 0 instead, whose number is above those of all tables, and the log number is the current log's.
+-- All used sequence numbers are recorded.
 pub record IsFlush (d : Directory) (next : Layout) (content : TableContent) (sealed : List LogContent) (current : LogContent) : Type 0 where
   pub logs : d.logs ≡ sealed ++ current ∷ []
   pub entries : SameEntries content.entries (logged sealed)
@@ -141,8 +146,8 @@ FlushLaw = (order : Order) (old new : Files) (d : Directory) (edits : List (List
 
 -- ---- a compaction
 
--- The layout is that of a compaction: in place of the inputs are outputs of a level from 1 on, in order, with none but
--- entries of the inputs. All used sequences are recorded.
+-- The layout is that of a compaction: in place of the inputs are outputs of a level from 1 on, in
+-- order, with none but entries of the inputs. All used sequence numbers are recorded.
 pub record IsCompaction (order : Order) (d : Directory) (next : Layout) (inputs rest outputs contents : List TableContent) (level : ℕ) : Type 0 where
   pub old_tables : AreParted d.tables inputs rest
   pub replaceable : MayReplace order inputs rest level
@@ -176,8 +181,9 @@ CompactionLaw = (order : Order) (old new : Files) (d : Directory) (edits : List 
 abbrev pub HasLowerKeys : Order → PlacedTable → PlacedTable → Type 0
 HasLowerKeys order a b = (k l : Key) × IsKey a.table.largest k × IsKey b.table.smallest l × (order.cmp k.user l.user ≡ Less)
 
--- The inputs are tables of a level and of the next one. No table that stays shares a user key with an input of the same
--- level; in level 0 none stays. Those of the next level lie wholly below or above all inputs.
+-- The inputs are tables of a level and of the next one. No table that stays shares a user key with
+-- an input of the same level; in level 0 none stays. Those of the next level lie wholly below or
+-- above all inputs.
 pub record AreClosedInputs (order : Order) (inputs rest : List TableContent) (level : ℕ) : Type 0 where
   pub levels : (input : TableContent) → InTables inputs input → (input.placed.level ≡ level) ⊎ (input.placed.level ≡ level + 1)
   pub whole : (stays : TableContent) → InTables rest stays → stays.placed.level ≡ level → 0 < level
@@ -194,8 +200,8 @@ ClosedLaw = (order : Order) (files : Files) (d : Directory) (inputs rest : List 
 
 -- ---- files that aren't live
 
--- A directory of these parts reads no file of this name: it is neither `CURRENT` nor its MANIFEST nor a live log, and if
--- it is the older name of a table, the table is there under the newer one.
+-- A directory of these parts reads no file of this name: it is neither `CURRENT` nor its MANIFEST
+-- nor a live log, and if it is the older name of a table, the table is there under the newer one.
 pub record IsUnread (files : Files) (d : Directory) (name : List ℕ) : Type 0 where
   pub current : name ≢ name_of Current
   pub manifest : name ≢ name_of (Manifest d.manifest)

@@ -49,7 +49,8 @@ Never bytes = ⊥
 abbrev pub IsOnly : (List ℕ → Type 0) → Order → Files → PlacedTable → Type 0
 IsOnly is order files placed = (entries : List Entry) → HasTable order files (content_of placed entries) → HasBytes is files (content_of placed entries)
 
--- the table's entries are older than those logged of their keys, and their sequences are recorded
+-- the table's entries are older than those logged of their keys, and their sequence numbers are
+-- recorded
 pub record IsOlder (logged : List Entry) (recorded : ℕ) (content : TableContent) : Type 0 where
   pub newer : AreNewerThan logged content.entries
   pub sequences : AllByRecursion (λ (entry : Entry). entry.sequence ≤ recorded) content.entries

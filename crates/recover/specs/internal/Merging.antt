@@ -55,7 +55,7 @@ abbrev pub HaveCome : Order → List Came → Type 0
 HaveCome order [] = Unit {0}
 HaveCome order (last ∷ before) = ((a : Came) → Among before a → ComesBehind order a last) × HaveCome order before
 
--- the entry is older than all that is logged of its key, and its sequence is recorded
+-- the entry is older than all that is logged of its key, and its sequence number is recorded
 pub record IsOldEntry (logged : List Entry) (recorded : ℕ) (entry : Entry) : Type 0 where
   pub newer : (l : Entry) → Among logged l → l.key ≡ entry.key → entry.sequence < l.sequence
   pub sequence : entry.sequence ≤ recorded
@@ -88,7 +88,7 @@ abbrev pub IsLast : Last → List Came → Type 0
 IsLast last [] = last.some ≡ false
 IsLast last (c ∷ before) = (last.some ≡ true) × IsHead last.head c.entry × (c.place ≡ last.place) × (c.level ≡ last.level)
 
--- what an entry of this key and sequence doesn't stand in front of, if it is there
+-- what an entry of this key and sequence number doesn't stand in front of, if it is there
 abbrev pub IsNotBefore : Order → Last → Entry → Type 0
 IsNotBefore order last entry = last.some ≡ true → ComesBefore order entry (stamp last.head.user.items last.head.sequence) → ⊥
 
@@ -133,14 +133,16 @@ pub record IsMerging {K : Type 0} (order : Order) (files : Files) (logged : List
 
 -- ---- which entry comes next
 
--- of the first lanes, so many, none stands; or the one at this index stands, and none that does comes in front of it
+-- of the first lanes, so many, none stands; or the one at this index stands, and none that does
+-- comes in front of it
 abbrev pub IsLeastOf : {K : Type 0} → Order → List (Lane K) → ℕ → Option ℕ → Type 0
 IsLeastOf {K} order lanes count None = (i : ℕ) (lane : Lane K) → i < count → slice_get lanes i ≡ Some lane → lane.stands ≡ true → ⊥
 IsLeastOf {K} order lanes count (Some at) =
     (lane : Lane K) × (slice_get lanes at ≡ Some lane) × (lane.stands ≡ true)
     × ((j : ℕ) (other : Lane K) → j < count → slice_get lanes j ≡ Some other → other.stands ≡ true → IsHeadBefore order other.walk.head lane.walk.head → ⊥)
 
--- behind the last entry, in front of which it doesn't stand, the one at which the lane stands may come
+-- behind the last entry, in front of which it doesn't stand, the one at which the lane stands may
+-- come
 abbrev pub MayComeNext : {K : Type 0} → Last → Lane K → Type 0
 MayComeNext last lane = last.some ≡ true → last.head.user.items ≡ lane.walk.head.user.items
     → (lane.walk.head.sequence < last.head.sequence) × IsNoNewer last.level last.place lane.level lane.place
@@ -164,16 +166,16 @@ IsPut {K} lanes lane new =
 
 -- ---- what is logged
 
--- by key, then by sequence
+-- by key, then by sequence number
 abbrev pub age_cmp : (List ℕ → List ℕ → Ordering) → Logged → Logged → Ordering
 age_cmp cmp = then_cmp (on (λ (l : Logged). l.key.now) cmp) (on (λ (l : Logged). l.sequence) nat_cmp)
 
--- of each two the one in front has the lower key, or the same one and no greater sequence
+-- of each two the one in front has the lower key, or the same one and no greater sequence number
 abbrev pub AreByAge : Order → List Logged → Type 0
 AreByAge order logged = (i j : ℕ) (a b : Logged) → i < j → slice_get logged i ≡ Some a → slice_get logged j ≡ Some b
     → (order.cmp a.key.now b.key.now ≡ Less) ⊎ ((a.key.now ≡ b.key.now) × (a.sequence ≤ b.sequence))
 
--- the key and the sequence are those of the entry
+-- the key and the sequence number are those of the entry
 abbrev pub IsNoteOf : Entry → Logged → Type 0
 IsNoteOf entry note = (note.key.now ≡ entry.key) × (note.sequence ≡ entry.sequence)
 
@@ -212,14 +214,16 @@ abbrev pub DoesWait : List PlacedTable → List Bool → ℕ → Key → Type 0
 DoesWait tables begun place key =
     (placed : PlacedTable) × (slice_get tables place ≡ Some placed) × (slice_get begun place ≡ Some false) × IsKey placed.table.smallest key
 
--- Of the first tables, so many, none waits; or the one at this place waits with this key, and none does in front of it.
+-- Of the first tables, so many, none waits; or the one at this place waits with this key, and none
+-- does in front of it.
 abbrev pub IsSoonestOf : Order → List PlacedTable → List Bool → ℕ → Option (ℕ × InternalKey) → Type 0
 IsSoonestOf order tables begun count None = (place : ℕ) (key : Key) → place < count → DoesWait tables begun place key → ⊥
 IsSoonestOf order tables begun count (Some best) = DoesWait tables begun best.0 (key_of best.1)
     × ((place : ℕ) (key : Key) → place < count → DoesWait tables begun place key
     → ComesBefore order (stamp key.user key.sequence) (stamp best.1.user.now best.1.sequence) → ⊥)
 
--- none of the tables waits; or the one at this place waits with this key, and none does in front of it
+-- none of the tables waits; or the one at this place waits with this key, and none does in front of
+-- it
 abbrev pub IsSoonest : Order → List PlacedTable → List Bool → Option (ℕ × InternalKey) → Type 0
 IsSoonest order tables begun None = (place : ℕ) (placed : PlacedTable) (key : Key)
     → slice_get tables place ≡ Some placed → slice_get begun place ≡ Some false → IsKey placed.table.smallest key → ⊥
@@ -237,12 +241,12 @@ IsWithin order head (Some key) = ComesBefore order (stamp head.user.items head.s
 
 -- ---- an entry that stands where it may not
 
--- an entry of this key and sequence isn't older than one of these
+-- an entry of this key and sequence number isn't older than one of these
 abbrev pub IsNotOldEntry : List Entry → List ℕ → ℕ → Type 0
 IsNotOldEntry entries key sequence = (l : Entry) × Among entries l × (l.key ≡ key) × (l.sequence ≤ sequence)
 
--- The entry at which the lane stands is newer than the recorded sequence, or not older than what is logged of its key, or breaks the
--- row; and each is refused by an error of its own.
+-- The entry at which the lane stands is newer than the recorded sequence number, or not older than
+-- what is logged of its key, or breaks the row; and each is refused by an error of its own.
 abbrev pub Misplaces : {K : Type 0} → List Entry → ℕ → Last → Lane K → DbError → Type 0
 Misplaces entries recorded last lane error =
     ((error ≡ Corrupt file.Table damage.Number) × (recorded < lane.walk.head.sequence))

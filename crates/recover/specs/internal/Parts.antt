@@ -50,7 +50,8 @@ in_file kind read_error.Memory = error.OutOfMemory
 in_file kind (read_error.Corrupt what) = error.Corrupt kind what
 in_file kind (read_error.Unsupported what) = error.Unsupported what
 
--- Why the bytes of a file weren't read: out of memory, since they are damaged, or since they are past what is supported.
+-- Why the bytes of a file weren't read: out of memory, since they are damaged, or since they are
+-- past what is supported.
 abbrev pub RefusesBytes : DbError → Type 0 → Type 0 → Type 0
 RefusesBytes error.OutOfMemory damaged unsupported = Unit {0}
 RefusesBytes (error.Corrupt file what) damaged unsupported = damaged
@@ -100,13 +101,13 @@ is_live layout n = nat_lt 0 n && (nat_le layout.log_number n || n == layout.prev
 abbrev pub numbers_in : List LogContent → List ℕ
 numbers_in contents = map (λ content. content.number) contents
 
--- the entries follow the old ones, and their sequences rise above the last of those
+-- the entries follow the old ones, and their sequence numbers rise above the last of those
 pub record Replays (old new : Replay) (more : List Entry) : Type 0 where
   pub entries : new.entries.items ≡ old.entries.items ++ more
   pub rise : RiseAbove old.last more
   pub last : new.last ≡ max old.last (greatest more)
 
--- the sequences of its entries rise, and the last one is the greatest
+-- the sequence numbers of its entries rise, and the last one is the greatest
 abbrev pub IsRising : Replay → Type 0
 IsRising replay = RiseAbove 0 replay.entries.items × (replay.last ≡ greatest replay.entries.items)
 
@@ -120,7 +121,7 @@ pub record HasReplayed (files : Files) (numbers : List ℕ) (replay : Replay) : 
   pub rise : RiseAbove 0 (logged contents)
   pub last : replay.last ≡ greatest (logged contents)
 
--- no logs of these numbers have sequences that rise
+-- no logs of these numbers have sequence numbers that rise
 abbrev pub HasNoReplay : Files → List ℕ → Type 0
 HasNoReplay files numbers = (contents : List LogContent) → HasLogs files contents → numbers_in contents ≡ numbers → RiseAbove 0 (logged contents) → ⊥
 

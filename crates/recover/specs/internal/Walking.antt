@@ -22,7 +22,8 @@ use Rattle.recover.specs.Tables.{table_at, HasTable}
 
 -- ---- keys
 
--- an entry of this key and this sequence: where it comes among others doesn't depend on its value
+-- an entry of this key and this sequence number: where it comes among others doesn't depend on its
+-- value
 abbrev pub stamp : List ℕ → ℕ → Entry
 stamp key sequence = record { key = key; sequence = sequence; value = None }
 
@@ -50,7 +51,8 @@ HasMore block = (at : ℕ) × (block.place ≡ Some at) × (at + 1 < length bloc
 abbrev pub HasNoMore : Placed → Type 0
 HasNoMore block = (at : ℕ) → block.place ≡ Some at → length block.pairs ≤ at + 1
 
--- whatever the first blocks of the file have, so many, those from there up to this number have these pairs
+-- whatever the first blocks of the file have, so many, those from there up to this number have
+-- these pairs
 abbrev pub AddsPairs : (List ℕ → List ℕ → Ordering) → List ℕ → Frame → ℕ → ℕ → List Pair → Type 0
 AddsPairs cmp file frame from to pairs = (found : List Pair) → IsBegun cmp file frame from found → IsBegun cmp file frame to (found ++ pairs)
 
@@ -70,7 +72,8 @@ pub record AreFirst (order : Order) (files : Files) (placed : PlacedTable) (tabl
   pub frame : IsFrame order.cmp bytes table.frame
   pub begun : IsBegun order.cmp bytes table.frame next found
 
--- The walk has passed the first entries of its table, which are in order, and stands on the next one.
+-- The walk has passed the first entries of its table, which are in order, and stands on the next
+-- one.
 pub record Passes {K : Type 0} (order : Order) (files : Files) (placed : PlacedTable) (walk : TableWalk K) (passed : List Entry) (here : Entry) : Type 0 where
   pub front : List Pair
   pub at : ℕ
@@ -93,7 +96,8 @@ pub record Passes {K : Type 0} (order : Order) (files : Files) (placed : PlacedT
 abbrev pub GoesOn : {K : Type 0} → Order → Files → PlacedTable → TableWalk K → List Entry → Entry → Type 0
 GoesOn order files placed walk passed here = (next : Entry) × Passes order files placed walk (passed ++ here ∷ []) next × ComesBefore order here next
 
--- whatever it has passed, it has passed one more; or that one was the last, and these are all entries of the table
+-- whatever it has passed, it has passed one more; or that one was the last, and these are all
+-- entries of the table
 abbrev pub IsPassed : {K : Type 0} → Order → Files → PlacedTable → Bool → TableWalk K → TableWalk K → Type 0
 IsPassed order files placed more old new = (passed : List Entry) (here : Entry) → Passes order files placed old passed here
     → MatchBool more (GoesOn order files placed new passed here) (HasTable order files (content_of placed (passed ++ here ∷ [])) × (new.passed ≡ length (passed ++ here ∷ [])))

@@ -22,8 +22,8 @@ use Rattle.directory_writes.specs.internal.JobWrites.{KeepsOtherTables}
 
 -- ---- over any store
 
--- It writes tables of numbers that are the job's, and no others; the memory tables stay, and what it keeps anew of tables is of
--- those that its cursor goes over, which are those of before.
+-- It writes tables of numbers that are the job's, and no others; the memtables stay, and what
+-- it keeps anew of tables is of those that its cursor goes over, which are those of before.
 pub record StepTouches {K : Type 0} {g : _} (old new : Whole) (next more : ℕ) (before after : OpenJob K g) : Type 0 where
   pub writes : WritesTables old.seen.facts new.seen.facts (IsMineUpTo before.job.outputs next more)
   pub memory : LeavesMemories old.memory new.memory
@@ -32,7 +32,8 @@ pub record StepTouches {K : Type 0} {g : _} (old new : Whole) (next more : ℕ) 
 
 -- ---- while it is faithful
 
--- Whatever the answer, the directory stays, and so do its other tables; what is kept of tables stays right.
+-- Whatever the answer, the directory stays, and so do its other tables; what is kept of tables
+-- stays right.
 pub record StepKeeps {K : Type 0} {g : _} (order : Order) (old new : Whole) (next more : ℕ) (before : OpenJob K g) (d : Directory) : Type 0 where
   pub others : KeepsOtherTables order old.seen.facts.files new.seen.facts.files (IsMineUpTo before.job.outputs next more) more d
   pub sound : IsSound order.cmp new.seen
@@ -58,15 +59,17 @@ GoesOn order old new next more budget before after progress = IsTrue new.seen.fa
     → (front : List InternalEntry) × (back : List InternalEntry) × (left ≡ front ++ back) × IsStepOf budget progress front back
     × IsRunning order new more d after (came ++ front) back
 
--- So it does over all contents that the inputs may have: whichever they are, so many of their entries came.
+-- So it does over all contents that the inputs may have: whichever they are, so many of their
+-- entries came.
 abbrev pub MayGoOn : {K : Type 0} {g : _} → Order → Whole → Whole → ℕ → ℕ → ℕ → OpenJob K g → OpenJob K g → Progress → Type 0
 MayGoOn order old new next more budget before after progress = IsTrue new.seen.facts.faithful → (contents : List TableContent) (came left : List InternalEntry)
     → MayRun order old next contents before came left
     → (front : List InternalEntry) × (back : List InternalEntry) × (left ≡ front ++ back) × IsStepOf budget progress front back
     × MayRun order new more contents after (came ++ front) back
 
--- Why it doesn't: out of memory, while no call of the store failed; since the store failed; never as Corrupt; as Unsupported only
--- where the file of an input passes a limit of reading, or the inputs' entries are large; or since no number is left.
+-- Why it doesn't: out of memory, while no call of the store failed; since the store failed; never
+-- as Corrupt; as Unsupported only where the file of an input passes a limit of reading, or the
+-- inputs' entries are large; or since no number is left.
 abbrev pub RefusesStep : {K : Type 0} {g : _} → Order → Whole → Whole → ℕ → ℕ → OpenJob K g → DbError → Type 0
 RefusesStep order old new next more before e = RefusesEntry e old.seen.facts new.seen.facts
     (IsTrue new.seen.facts.faithful → (d : Directory) (came left : List InternalEntry) → CanStep order old next d before came left → ⊥)

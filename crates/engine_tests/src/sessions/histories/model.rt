@@ -22,7 +22,8 @@ struct Written {
     is_put: bool,
 }
 
-// A snapshot or an iterator: its id, the number of the last write that it sees, and at which key it stands, if it does.
+// A snapshot or an iterator: its id, the number of the last write that it sees, and at which key it
+// stands, if it does.
 #[derive(Clone, Copy)]
 struct View {
     id: u64,
@@ -350,7 +351,7 @@ impl Model {
         self.go(alloc, view, by)
     }
 
-    // The step of this number of a walk of the first iterator over all pairs.
+    // The step of this number of an iteration of the first iterator over all pairs.
     pub fn walk(&mut self, alloc: Global, number: u8) -> Result<Step, DbError> {
         let Some(view) = self.iterators.get(0).copied() else {
             return Err(DbError::NoIterator);

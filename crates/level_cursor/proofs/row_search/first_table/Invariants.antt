@@ -4,7 +4,8 @@ use Rattle.edits.specs.declared.field.PlacedTable.{PlacedTable}
 use Rattle.ikey.specs.Below.{IsBelowInternal}
 use Rattle.level_cursor.proofs.row_search.first_table.Given as goal
 
--- the table before `low`, if there is one, ends below the key, and the one at `high`, if there is one, doesn't
+-- the table before `low`, if there is one, ends below the key, and the one at `high`, if there is
+-- one, doesn't
 abbrev pub invariant-loop-low : goal.invariant-loop-low
 invariant-loop-low g l = record {
   within : l.low ≤ l.high;
