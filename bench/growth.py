@@ -36,4 +36,4 @@ def show():
     begun = load()
     text = growth_of(SIZES, grown(programs, rounds))
     print(text)
-    put_between(f"{ROOT}/docs/SPEED.md", GROWTH, headline("Processor microseconds an entry", rounds, begun) + "\n\n" + text)
+    put_between(f"{ROOT}/bench/README.md", GROWTH, headline("Processor microseconds an entry", rounds, begun) + "\n\n" + text)

@@ -47,6 +47,6 @@ def show():
     text = others_of(rows_of(sides, rounds), sizes)
     print(text)
     told = headline(f"Wall time / processor time in seconds, N = {number:,}", rounds, begun, NAMES)
-    put_between(f"{ROOT}/docs/SPEED.md", OTHERS, told + "\n\n" + text)
+    put_between(f"{ROOT}/bench/README.md", OTHERS, told + "\n\n" + text)
     for side in sides:
         side.remove()

@@ -5,11 +5,15 @@ import shutil
 import statistics
 import subprocess
 import sys
+import textwrap
 import time
 
 ROOT = os.path.dirname(os.path.dirname(os.path.abspath(__file__)))
 ROOM = f"{ROOT}/build/bench"
 MEASURE = f"{ROOM}/measure"
+
+# The most characters of a line of prose in a page.
+WIDTH = 100
 
 # Each twin: the file that it is made of, the file by which one sees that its library is there, the packages that Debian has it in, and
 # what it is linked with.
@@ -219,9 +223,11 @@ def load():
 
 
 def headline(size, rounds, begun, names=("LevelDB",)):
-    """What was run, where and when: `begun` is the load of the machine when it began."""
+    """Says what was run, where and when, in lines as a page has them. `begun` is the machine's load when it began."""
     versions = ", ".join(f"{it} {version_of(it)}" for it in names)
-    return (
-        f"{size}, {f'medians of {rounds} runs' if rounds > 1 else 'one run'}, on {time.strftime('%Y-%m-%d')}; {machine()}; {versions}. "
+    runs = f"medians of {rounds} runs" if rounds > 1 else "one run"
+    told = (
+        f"{size}, {runs}, on {time.strftime('%Y-%m-%d')}; {machine()}; {versions}. "
         f"The load of the machine was {begun:.1f} when it began and {load():.1f} when it ended."
     )
+    return textwrap.fill(told, WIDTH, break_long_words=False, break_on_hyphens=False)
