@@ -1,12 +1,10 @@
-// Fails the system call of one number with EIO, beneath ldbtool by LD_PRELOAD, and counts all.
-// tools/refusals builds and uses it. It counts calls that concern files of one folder: by a path in
-// it, or by a descriptor that isn't a standard stream.
+// Beneath ldbtool, by LD_PRELOAD: the call of the system of one number fails with EIO, and all are counted. tools/refusals builds
+// and uses it. Counted are calls that concern files of one folder: by a path in it, or by a descriptor that isn't a standard stream.
 //
-//   REFUSED_NUMBER=N     the Nth call fails and does nothing; 0 fails none
-//   COUNTS_FILE=FILE     two words of 64 bits: how many calls there were, and how many failed
+//   REFUSED_NUMBER=N     the Nth call fails and does nothing, none where N is 0
+//   COUNTS_FILE=FILE     has two words of 64 bits: how many calls there were, and how many of them failed. It is mapped, so that
+//                        they stand there however the program ends.
 //   FOLDER=PATH          the folder
-//
-// COUNTS_FILE is mapped, so that the words stand there however the program ends.
 #define _GNU_SOURCE
 #include <dlfcn.h>
 #include <errno.h>
