@@ -1,17 +1,17 @@
 // LevelDB itself, by its public interface, for the checks of this folder.
 //
-//   leveldb_driver version                 the version of LevelDB, as 1.23
-//   leveldb_driver dump FLAGS FOLDER       opens a database and prints its pairs, one line each
-//   leveldb_driver get FLAGS FOLDER        prints the value of each key of standard input, or "none"
-//   leveldb_driver seek FLAGS FOLDER       prints the first pair not before each key, or "end"
-//   leveldb_driver write FLAGS FOLDER      applies the lines of standard input
-//   leveldb_driver script FLAGS FOLDER     answers the lines of a script of `ldbtool run`
-//   leveldb_driver maps FLAGS              prints the pairs of each folder that its input names
-//   leveldb_driver history FLAGS FOLDER    makes a database by a random history
-//   leveldb_driver file FLAGS FILE         prints a MANIFEST, a log or a table (DumpFile)
-//   leveldb_driver compact FLAGS FOLDER    compacts all of a database (CompactRange)
-//   leveldb_driver repair FLAGS FOLDER     makes a database of a folder's files (RepairDB)
-//   leveldb_driver hold FLAGS FOLDER       opens, prints "held", and closes at its input's end
+//     leveldb_driver version                 the version of LevelDB, as 1.23
+//     leveldb_driver dump FLAGS FOLDER       opens a database and prints its pairs, one line each
+//     leveldb_driver get FLAGS FOLDER        prints the value of each key of standard input, or "none"
+//     leveldb_driver seek FLAGS FOLDER       prints the first pair not before each key, or "end"
+//     leveldb_driver write FLAGS FOLDER      applies the lines of standard input
+//     leveldb_driver script FLAGS FOLDER     answers the lines of a script of `ldbtool run`
+//     leveldb_driver maps FLAGS              prints the pairs of each folder that its input names
+//     leveldb_driver history FLAGS FOLDER    makes a database by a random history
+//     leveldb_driver file FLAGS FILE         prints a MANIFEST, a log or a table (DumpFile)
+//     leveldb_driver compact FLAGS FOLDER    compacts all of a database (CompactRange)
+//     leveldb_driver repair FLAGS FOLDER     makes a database of a folder's files (RepairDB)
+//     leveldb_driver hold FLAGS FOLDER       opens, prints "held", and closes at its input's end
 //
 // Keys and values are in hexadecimal, "-" for the empty string. The lines of `write` are "put KEY
 // VALUE" and "del KEY"; those between "begin" and "end" are one batch. `write` and `maps` make a
@@ -24,22 +24,22 @@
 // or a line of input is wrong. Every database is opened with paranoid_checks, read with
 // verify_checksums, and without compression and filter policy if no flag says otherwise. FLAGS are
 //
-//   --reuse              goes on with the log and the MANIFEST that are there (reuse_logs); without
-//                        it LevelDB moves what the logs hold into a table
-//   --other-comparator   orders the keys by a comparator of another name
-//   --reverse            orders the keys by reversed bytes, as `ldbtool --order reverse` does
-//   --filter             a Bloom filter of 10 bits a key
-//   --snappy             compression by Snappy
-//   --block-bytes=N      block_size
-//   --restarts=N         block_restart_interval
-//   --file-bytes=N       max_file_size
-//   --write-buffer=N     write_buffer_size (LevelDB takes 65,536 for less)
-//   --lenient            no paranoid_checks
-//   --unverified         no verify_checksums
-//   --on                 `get` prints "refused" for a key that is refused, and goes on
-//   --backwards          `dump` goes from the last pair to the first
-//   --seed=N             which history
-//   --operations=N       how many operations a history has (10000)
+//     --reuse              goes on with the log and the MANIFEST that are there (reuse_logs); without
+//                          it LevelDB moves what the logs hold into a table
+//     --other-comparator   orders the keys by a comparator of another name
+//     --reverse            orders the keys by reversed bytes, as `ldbtool --order reverse` does
+//     --filter             a Bloom filter of 10 bits a key
+//     --snappy             compression by Snappy
+//     --block-bytes=N      block_size
+//     --restarts=N         block_restart_interval
+//     --file-bytes=N       max_file_size
+//     --write-buffer=N     write_buffer_size (LevelDB takes 65,536 for less)
+//     --lenient            no paranoid_checks
+//     --unverified         no verify_checksums
+//     --on                 `get` prints "refused" for a key that is refused, and goes on
+//     --backwards          `dump` goes from the last pair to the first
+//     --seed=N             which history
+//     --operations=N       how many operations a history has (10000)
 
 #include <unistd.h>
 
