@@ -2,7 +2,7 @@
 //
 //     leveldb_driver version                 the version of LevelDB, as 1.23
 //     leveldb_driver dump FLAGS FOLDER       opens a database and prints its pairs, one line each
-//     leveldb_driver get FLAGS FOLDER        prints the value of each key of standard input, or "none"
+//     leveldb_driver get FLAGS FOLDER        prints the value of each key of its input, or "none"
 //     leveldb_driver seek FLAGS FOLDER       prints the first pair not before each key, or "end"
 //     leveldb_driver write FLAGS FOLDER      applies the lines of standard input
 //     leveldb_driver script FLAGS FOLDER     answers the lines of a script of `ldbtool run`
