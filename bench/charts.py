@@ -8,11 +8,11 @@ NAMES, WIDTH, ROW, TOP = 200, 600, 34, 64
 DARK, LIGHT = "#2f6f9f", "#a9c9de"
 STYLE = "<style>text { font: 13px sans-serif; fill: #222 } .small { font-size: 10.5px; fill: #444 } .head { font-weight: bold }</style>"
 
-# the largest ratio that is drawn, and the powers of ten of a microsecond between which latencies are
+# the largest ratio that is drawn, and the powers of ten of a microsecond that latencies lie between
 MOST = 3.0
 DECADES = (0, 6)
 
-# how the writes of a row are marked: so many of them are as fast, or faster
+# marks of a row of writes: so many of them are as fast, or faster
 MARKS = (("half of the writes", DARK, 5.0), ("99 in 100", "#6c9fc4", 4.5), ("999 in 1,000", LIGHT, 4.5), ("the slowest", "#b8562e", 5.0))
 
 
@@ -82,7 +82,7 @@ def place_of(nanoseconds):
 
 
 def told(nanoseconds):
-    """A time in the unit in which it is read best."""
+    """Returns a time in the unit that reads best."""
     for unit, size in (("s", 1e9), ("ms", 1e6)):
         if nanoseconds >= size:
             return f"{nanoseconds / size:.3g} {unit}"
@@ -90,7 +90,8 @@ def told(nanoseconds):
 
 
 def marked(top, name, times):
-    """The row of one way of writing: a line from its half to its slowest, with a mark for each part of the writes."""
+    """Draws one way of writing: a line from its median to its slowest write, with a mark for each
+    part of the writes."""
     middle, ends = top + ROW / 2, [place_of(times[it]) for it in (0, -1)]
     lines = [
         f'<text x="{NAMES - 16}" y="{middle + 4}" text-anchor="end">{name}</text>',
@@ -103,7 +104,7 @@ def marked(top, name, times):
 
 
 def latency_chart(rows, number):
-    """How long writes take, by the work behind each, over powers of ten."""
+    """Draws how long writes take, by the work after each, over powers of ten."""
     bottom, width = TOP + ROW * len(rows), NAMES + WIDTH + 60
     lines = []
     for power in range(DECADES[0], DECADES[1] + 1):

@@ -1,4 +1,5 @@
-"""What `ldbtool check` and `ldbtool dump` of a settled folder take, beside what LevelDB has that comes next to them."""
+"""What `ldbtool check` and `ldbtool dump` of a settled folder take, beside the nearest that LevelDB
+has."""
 import os
 import statistics
 import subprocess
@@ -8,7 +9,7 @@ from sides import ROOT, fail, measured, say
 
 
 def tool():
-    """The command of this repository: as LDBTOOL says, or as `make build` makes it."""
+    """Returns the command of this repository: LDBTOOL, or what `make build` makes."""
     given = os.path.abspath(os.environ.get("LDBTOOL") or f"{ROOT}/build/ldbtool")
     if not os.path.isfile(given) and subprocess.run(["make", "--no-print-directory", "build"], cwd=ROOT).returncode:
         fail("ldbtool was not built")
@@ -16,7 +17,7 @@ def tool():
 
 
 def lines_of(command):
-    """How many lines a program prints."""
+    """Counts the lines that a program prints."""
     with subprocess.Popen(command, stdout=subprocess.PIPE) as run:
         count = sum(piece.count(b"\n") for piece in iter(lambda: run.stdout.read(1 << 20), b""))
     if run.returncode:
@@ -25,7 +26,7 @@ def lines_of(command):
 
 
 def same_entries(check, dump, walk, theirs):
-    """Stops where the four don't tell of as many entries, of which a settled folder has one for each key."""
+    """Stops if the four don't tell of as many entries. A settled folder has one for each key."""
     report, _ = measured(check)
     good, *files = report.splitlines()
     if good != "good":
@@ -40,7 +41,7 @@ def same_entries(check, dump, walk, theirs):
 
 
 def rows_of(sides, rounds):
-    """What each takes over the same files. What is printed goes to /dev/null."""
+    """Measures each over the same files. What is printed goes to /dev/null."""
     ours, theirs = (f"{it.room}/same-settled" for it in sides)
     words = (sides[1].program, "readseq", str(sides[1].number), theirs), (sides[1].program, "dump", "1", theirs)
     check, dump, walk, printed = [tool(), "check", ours], [tool(), "dump", ours], [*words[0]], [*words[1]]
@@ -62,7 +63,7 @@ def rows_of(sides, rounds):
 
 
 def show(sides, rounds, told):
-    """Writes the table into docs/SPEED.md; `told` answers the line that stands above it."""
+    """Writes the table into docs/SPEED.md; `told` returns the line above it."""
     text = taken_of(rows_of(sides, rounds))
     print(text)
     put_between(f"{ROOT}/docs/SPEED.md", CHECKS, told() + "\n\n" + text)

@@ -1,5 +1,6 @@
-// The workloads of crates/bench over goleveldb, LevelDB written anew in Go, for bench/run others (twin.h says how it is called, and has
-// the same keys, values and sums). Its checksums are verified, as by default, and nothing is compressed.
+// The workloads of crates/bench over goleveldb, LevelDB written anew in Go, for bench/run others
+// (twin.h says how it is called, and has the same keys, values and sums). It verifies its
+// checksums, as by default, and compresses nothing.
 package main
 
 import (
@@ -34,7 +35,7 @@ const (
 
 func stepped(state uint64) uint64 { return state*6364136223846793005 + 1442695040888963407 }
 
-// A key is there until the next one is asked for.
+// A key is valid until the next one is asked for.
 type keys struct {
 	drawn bool
 	state uint64
@@ -170,7 +171,7 @@ func getEach(db *leveldb.DB, next func() []byte, count uint64, t *tally) error {
 	return nil
 }
 
-// Walks over all pairs, by where a walk begins and what its next step is.
+// Iterates over all pairs, by where that begins and what its next step is.
 func walk(db *leveldb.DB, first, next func(iterator.Iterator) bool, t *tally) error {
 	pairs := db.NewIterator(nil, nil)
 	defer pairs.Release()

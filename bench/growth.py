@@ -2,21 +2,21 @@
 from pages import GROWTH, growth_of, put_between
 from sides import ROOT, Side, by_turns, headline, load, number_of, proved_program, twin
 
-# Of how many entries, and in which workloads, on the folders that each leaves for the next; reads also with LevelDB by pread, as
-# ours reads.
+# The numbers of entries, and the workloads, on the folders that each leaves for the next. Reads
+# also run with LevelDB by pread, as this database reads.
 SIZES = (100_000, 1_000_000, 4_000_000)
 GROWING = ("fillrandom", "settle", "readrandom")
 
 
 def runs_of(workload, sides):
-    """What is run by turns, by the side's name."""
+    """Returns what is run by turns, by the side's name."""
     ours, theirs = sides
     runs = {"ours": lambda: ours.run(workload), "LevelDB": lambda: theirs.run(workload)}
     return {**runs, "LevelDB by `pread`": lambda: theirs.run(workload, how=("pread",))} if workload == "readrandom" else runs
 
 
 def grown(programs, rounds):
-    """Each workload with the seconds of processors that each side takes at each size."""
+    """Returns the processor seconds that each side takes at each size, by workload."""
     found = {workload: {} for workload in GROWING}
     for number in SIZES:
         sides = [Side(name, program, number) for name, program in programs.items()]
@@ -36,4 +36,4 @@ def show():
     begun = load()
     text = growth_of(SIZES, grown(programs, rounds))
     print(text)
-    put_between(f"{ROOT}/docs/SPEED.md", GROWTH, headline("Processor microseconds an entry", rounds, begun) + "\n\n" + text)
+    put_between(f"{ROOT}/bench/README.md", GROWTH, headline("Processor microseconds an entry", rounds, begun) + "\n\n" + text)

@@ -1,4 +1,4 @@
-"""How long the slowest of N writes take, by the work that follows each, and LevelDB's beside them."""
+"""How long the slowest of N writes take, by the work after each, and LevelDB's beside them."""
 import os
 import shutil
 import statistics
@@ -9,12 +9,12 @@ from charts import latency_chart
 from pages import LATENCY, latency_of, put_between
 from sides import ROOM, ROOT, fail, headline, load, measured, number_of, proved_program, say, twin
 
-# What follows each write: pieces of so many entries, and all that there is to do.
+# The work after each write: pieces of so many entries, and all that there is to do.
 SHARES = ("0", "8", "24", "100", "all")
 
 
 def ways(number):
-    """Each way of writing, by its name: the program with its words."""
+    """Returns each way of writing, by its name: the program with its words."""
     ours, theirs = proved_program(), twin("LevelDB")
     named = {"0": "none", "all": "all that there is"}
     found = {f"ours, {named.get(it) or f'{it} entries'}": [ours, "latency", it, str(number)] for it in SHARES}
@@ -22,7 +22,8 @@ def ways(number):
 
 
 def written(command, folder):
-    """The nanoseconds of a half, of 99 in 100, of 999 in 1,000 and of all writes to an empty folder, and the seconds of all."""
+    """Measures writes to an empty folder: the nanoseconds within which a half, 99 in 100, 999 in
+    1,000 and all of them end, and the seconds of all."""
     os.makedirs(folder)
     begun = time.monotonic()
     ran = subprocess.run([*command, folder], stdout=subprocess.PIPE, text=True)
@@ -33,13 +34,13 @@ def written(command, folder):
 
 
 def all_written(commands, number, rounds):
-    """What each way takes, run by turns; stops where LevelDB finds another thing in one of the folders."""
+    """Measures each way by turns. It stops if LevelDB finds anything else in one of the folders."""
     taken, found = {}, {}
     for turn in range(rounds):
         for name, command in commands.items():
             folder = f"{ROOM}/latency"
             shutil.rmtree(folder, ignore_errors=True)
-            # what the run before left to be written isn't to slow this one
+            # what the run before left unwritten must not slow this one
             os.sync()
             taken.setdefault(name, []).append(written(command, folder))
             if turn == 0:

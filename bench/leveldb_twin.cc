@@ -1,13 +1,15 @@
-// The workloads of crates/bench over LevelDB itself, by its public interface, for bench/run (twin.h says how it is called).
+// The workloads of crates/bench over LevelDB itself, by its public interface, for bench/run (twin.h
+// says how it is called).
 //
-// Nothing is compressed, and checksums are verified; HOW changes one thing, and only how tables are read:
+// It compresses nothing and verifies checksums. HOW changes only how tables are read:
 //
-//   unverified    reads verify no checksums, which is LevelDB's own default
-//   pread         tables are read by pread into memory, and so kept in the cache, as this database does it; LevelDB maps them
+//   unverified    without verifying checksums, LevelDB's default
+//   pread         by pread into memory, kept in the cache, as this database does; LevelDB maps them
 //
-// latency prints how long the slowest writes of drawn keys took, in nanoseconds, as `bench latency` does; its other line says nothing.
-// dump prints each table and log of a folder as LevelDB does it, without opening the database. filllog is fillrandom with a write buffer
-// that takes all of it, so that a long log is left for both to open.
+// `latency` prints how long the slowest writes of drawn keys took, in nanoseconds, as
+// `bench latency` does; its other line says nothing. `dump` prints each table and log of a folder
+// as LevelDB does, without opening the database. `filllog` is `fillrandom` with a write buffer that
+// takes all of it, so that a long log is left for both to open.
 
 #include <fcntl.h>
 #include <unistd.h>
@@ -77,7 +79,8 @@ class ReadFile : public leveldb::RandomAccessFile {
   const int file_;
 };
 
-// (LevelDB's own Env reads so where a thousand files are mapped already: util/env_posix.cc, `PosixRandomAccessFile`)
+// (LevelDB's own Env reads this way once a thousand files are mapped: util/env_posix.cc,
+// `PosixRandomAccessFile`)
 class ReadingEnv : public leveldb::EnvWrapper {
  public:
   ReadingEnv() : EnvWrapper(leveldb::Env::Default()) {}
@@ -89,9 +92,9 @@ class ReadingEnv : public leveldb::EnvWrapper {
   }
 };
 
-// ---- the workloads that RocksDB's twin has not
+// ---- the workloads that RocksDB's twin doesn't have
 
-// How many nanoseconds each write took: so many of a thousand are as fast as what is printed, or faster (crates/bench/src/latency.rt).
+// Prints nanoseconds of writes: so many of a thousand took no longer (crates/bench/src/latency.rt).
 Status PutTimed(DB* db, Keys keys, uint64_t count, Tally* tally) {
   using Clock = std::chrono::steady_clock;
   twin::Values values;
@@ -143,7 +146,7 @@ bool EndsWith(const std::string& name, const std::string& end) {
   return name.size() >= end.size() && name.compare(name.size() - end.size(), end.size(), end) == 0;
 }
 
-// What `leveldbutil dump` does with these files, which Debian has not.
+// Does what `leveldbutil dump` does with these files; Debian has no such command.
 Status Dump(const std::string& folder) {
   leveldb::Env* env = leveldb::Env::Default();
   std::vector<std::string> names;
@@ -182,7 +185,7 @@ leveldb::Options Sized(const std::string& workload) {
   options.block_size = 4096;
   options.max_file_size = 2097152;
   options.compression = leveldb::kNoCompression;
-  // (level 0 is compacted from 4 files on and level 1 above 10 MB: these are no options)
+  // (level 0 is compacted from 4 files on and level 1 above 10 MB; no option changes that)
   return options;
 }
 

@@ -1,9 +1,10 @@
 // The workloads of crates/bench over LMDB, for bench/run others (twin.h says how it is called).
 //
-// LMDB keeps one tree of pages of 4,096 bytes in a file that is mapped, and a write puts new pages into it at once. There is no log, no
-// buffer, no cache, no filter, no checksum and nothing to compact, so that `settle` does nothing. Each write is a transaction of its own,
-// without a sync (MDB_NOSYNC: nothing is promised then of what a loss of power leaves), and each get, walk and seek has a transaction of
-// its own, so that it sees what is there when it begins. A pair is lent from the map.
+// LMDB keeps one tree of pages of 4,096 bytes in a mapped file, and a write puts new pages into it
+// at once. There is no log, buffer, cache, filter or checksum, and nothing to compact, so `settle`
+// does nothing. Each write is its own transaction, without a sync (MDB_NOSYNC: LMDB promises
+// nothing then after a power loss). Each get, iteration and seek has its own transaction, and sees
+// what is there when it begins. A pair is lent from the map.
 
 #include <lmdb.h>
 
@@ -19,7 +20,7 @@ namespace {
 using twin::Keys;
 using twin::Tally;
 
-// The most that the file may take: addresses alone are set aside for it.
+// The most that the file may take; only addresses are set aside for it.
 constexpr size_t kMapBytes = size_t{64} << 30;
 
 struct Database {
@@ -34,7 +35,7 @@ std::string_view Seen(const MDB_val& bytes) { return {static_cast<const char*>(b
 
 // ---- writes
 
-// Begins a transaction that writes, and commits it where the writes answer 0.
+// Begins a transaction that writes, and commits it if the writes return 0.
 template <typename Writes>
 int Written(const Database& db, Writes writes) {
   MDB_txn* txn = nullptr;
@@ -52,7 +53,8 @@ int Put(const Database& db, MDB_txn* txn, std::string_view key, std::string_view
   return mdb_put(txn, db.tree, &key_bytes, &value_bytes, 0);
 }
 
-// Puts so many entries, some at once, and leaves out those that don't fill a batch; with a sync behind each batch if asked.
+// Puts so many entries, some at once, and leaves out those that don't fill a batch. Syncs after
+// each batch if asked.
 int PutEach(const Database& db, Keys keys, uint64_t count, uint64_t batched, bool sync, Tally* tally) {
   twin::Values values;
   for (uint64_t i = 0; i < count / batched; i++) {
@@ -83,7 +85,7 @@ int DeleteEach(const Database& db, Keys keys, uint64_t count, Tally* tally) {
 
 // ---- reads
 
-// A transaction that reads, which is begun anew for each read.
+// A transaction that reads; it begins anew for each read.
 class Reader {
  public:
   explicit Reader(const Database& db) : db_(db) { fault_ = mdb_txn_begin(db.env, nullptr, MDB_RDONLY, &txn_); }
@@ -118,7 +120,7 @@ int GetEach(const Database& db, Keys keys, twin::Next next, uint64_t count, Tall
   return fault;
 }
 
-// Counts a pair and those behind it, at most so many, and answers what ended that, or 0.
+// Counts a pair and those after it, at most so many, and returns what ended that, or 0.
 int CountOn(MDB_cursor* cursor, MDB_val key, MDB_cursor_op first, MDB_cursor_op next, uint64_t most, Tally* tally) {
   MDB_val value;
   int fault = mdb_cursor_get(cursor, &key, &value, first);

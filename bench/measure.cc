@@ -1,11 +1,14 @@
-// Runs a program, and prints behind its output what it took: microseconds of wall time and of processors, and the most KB of memory.
+// Runs a program, and prints after its output what it took: microseconds of wall time and of
+// processors, and the most KB of memory.
 //
 //   measure [--silent] PROGRAM WORD..
 //
-// What a silent program prints is written to /dev/null: so nobody who reads it takes a processor meanwhile, or holds it up.
+// What a silent program prints is written to /dev/null, so that no reader takes a processor
+// meanwhile, or holds it up.
 //
-// A child begins with the memory of whoever forks it as its peak, and what Python takes is more than some workloads do: so bench/run
-// has this small program fork. The status is the program's, or 1 where it was stopped by a signal.
+// A child begins with the memory of whoever forks it as its peak, and Python takes more than some
+// workloads do. So bench/run has this small program fork. The status is the program's, or 1 if a
+// signal stopped it.
 
 #include <fcntl.h>
 #include <sys/resource.h>
@@ -18,7 +21,7 @@
 
 namespace {
 
-// Becomes the program, without a word where that can't be.
+// Becomes the program; says nothing if that fails.
 [[noreturn]] void Become(char** words, bool silent) {
   if (!silent || dup2(open("/dev/null", O_WRONLY), STDOUT_FILENO) == STDOUT_FILENO) execv(words[0], words);
   _exit(127);

@@ -1,4 +1,4 @@
-"""The workloads over LevelDB, goleveldb, RocksDB and LMDB, beside ours."""
+"""The workloads over LevelDB, goleveldb, RocksDB and LMDB, beside this database."""
 import os
 
 from pages import OTHERS, others_of, put_between
@@ -23,7 +23,8 @@ COMPARED = (
 
 
 def megabytes(side):
-    """How long the files are of what a side has settled, behind an open, in which goleveldb removes what it has merged."""
+    """Returns the MB of a side's settled files after an open, in which goleveldb removes what it
+    has merged."""
     measured([side.program, "open", str(side.number), f"{side.room}/settled"])
     return sum(it.stat().st_size for it in os.scandir(f"{side.room}/settled")) / 1e6
 
@@ -47,6 +48,6 @@ def show():
     text = others_of(rows_of(sides, rounds), sizes)
     print(text)
     told = headline(f"Wall time / processor time in seconds, N = {number:,}", rounds, begun, NAMES)
-    put_between(f"{ROOT}/docs/SPEED.md", OTHERS, told + "\n\n" + text)
+    put_between(f"{ROOT}/bench/README.md", OTHERS, told + "\n\n" + text)
     for side in sides:
         side.remove()

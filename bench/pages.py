@@ -15,13 +15,14 @@ def ratio(one, other):
 
 
 def ratios(row):
-    """Wall time and processors, ours to LevelDB's."""
+    """Returns the ratios of wall time and of processor time, ours to LevelDB's."""
     _, ours, theirs = row
     return [ratio(ours[it], theirs[it]) for it in (0, 1)]
 
 
 def lined(*rows):
-    """A table of rows of cells, of which the first is its head; all but the first column is at the right."""
+    """Returns a table of rows of cells. The first row is its head, and all columns but the first
+    are at the right."""
     head, *rest = rows
     return "\n".join(f"| {' | '.join(it)} |" for it in [head, *rest]).replace("\n", f"\n|---|{'---:|' * (len(head) - 1)}\n", 1)
 
@@ -37,7 +38,8 @@ def table_of(rows):
 
 
 def ways_of(rows):
-    """Processor seconds of reads, ours and each way of LevelDB's with the ratio of ours to it, and what memory each takes."""
+    """Returns processor seconds of reads, ours and each way of LevelDB's with the ratio of ours to
+    it, and the memory of each."""
     head, lines = ["Workload", "ours, processor s"], []
     ways = [it for it in rows[0][1] if it != "ours"]
     for way in ways:
@@ -52,7 +54,7 @@ def ways_of(rows):
 
 
 def taken_of(rows):
-    """What each of some programs took."""
+    """Returns a table of what each of some programs took."""
     lines = [(name, f"{wall:.3f}", f"{processor:.3f}", f"{memory:.1f}") for name, (wall, processor, memory) in rows]
     return lined(("What", "s", "processor s", "MB"), *lines)
 
@@ -62,7 +64,8 @@ def digits(seconds):
 
 
 def others_of(rows, sizes):
-    """Wall time and processor time of each side in one cell; and below what memory each took at most, and how long its files are."""
+    """Returns wall time and processor time of each side in one cell. Below stand the most memory
+    that each took, and the size of its files."""
     names = [*rows[0][1]]
     lines = [[f"`{workload}`", *(f"{digits(it[0])} / {digits(it[1])}" for it in taken.values())] for workload, taken in rows]
     most = [f"{max(taken[name][2] for _, taken in rows):.0f}" for name in names]
@@ -71,7 +74,8 @@ def others_of(rows, sizes):
 
 
 def growth_of(sizes, rows):
-    """What an entry takes of processors at each size, in microseconds, what ours takes of each other's, and of all the last by the first."""
+    """Returns the processor microseconds of an entry at each size, the ratio of ours to each other
+    side, and of each row the last figure divided by the first."""
     lines = [f"| Workload | | {' | '.join(f'N = {it:,}' for it in sizes)} | growth |", f"|---|---|{'---:|' * (len(sizes) + 1)}"]
     for name, sides in rows:
         told = {side: [it / size * 1e6 for it, size in zip(seconds, sizes)] for side, seconds in sides.items()}
@@ -88,13 +92,14 @@ def grown_row(name, side, each, form):
 
 
 def latency_of(rows):
-    """How long writes take in microseconds, by what follows each, and the seconds of all."""
+    """Returns how long writes take in microseconds, by the work after each, and the seconds of
+    all."""
     lines = [(name, *(f"{it / 1000:,.1f}" for it in times), f"{seconds:.1f}") for name, times, seconds in rows]
     return lined(("Work after each write", "half", "99 in 100", "999 in 1,000", "the slowest", "all, s"), *lines)
 
 
 def put_between(path, begin, text):
-    """Puts a text in the place of what stands between two lines of a page."""
+    """Replaces what stands between two lines of a page by a text."""
     with open(path, encoding="utf-8") as file:
         page = file.read()
     front, found, rest = page.partition(begin)

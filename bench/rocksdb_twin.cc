@@ -1,6 +1,7 @@
-// The workloads of crates/bench over RocksDB, by its public interface, for bench/run others (twin.h says how it is called).
+// The workloads of crates/bench over RocksDB, by its public interface, for bench/run others (twin.h
+// says how it is called).
 //
-// Sizes, cache, filter and checksums are set to what the other sides have; all else is as RocksDB has it by default.
+// Sizes, cache, filter and checksums are those of the other sides; all else is RocksDB's default.
 
 #include <map>
 #include <memory>

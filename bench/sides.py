@@ -1,18 +1,22 @@
-"""The programs that bench/run compares, one run of a workload on one of them, and where all that was run."""
+"""The programs that bench/run compares, one run of a workload on one of them, and the machine."""
 import os
 import re
 import shutil
 import statistics
 import subprocess
 import sys
+import textwrap
 import time
 
 ROOT = os.path.dirname(os.path.dirname(os.path.abspath(__file__)))
 ROOM = f"{ROOT}/build/bench"
 MEASURE = f"{ROOM}/measure"
 
-# Each twin: the file that it is made of, the file by which one sees that its library is there, the packages that Debian has it in, and
-# what it is linked with.
+# The most characters of a line of prose in a page.
+WIDTH = 100
+
+# Each twin: its source, the file that shows that its library is there, Debian's packages of that,
+# and what it is linked with.
 TWINS = {
     "LevelDB": ("leveldb_twin.cc", "/usr/include/leveldb/db.h", "libleveldb-dev", "-lleveldb"),
     "RocksDB": ("rocksdb_twin.cc", "/usr/include/rocksdb/db.h", "librocksdb-dev", "-lrocksdb"),
@@ -25,7 +29,8 @@ TWINS = {
     ),
 }
 
-# on which folder each workload runs: an empty one, one behind fillrandom, or that one with its levels settled; and whether it writes
+# the folder of each workload (empty, filled by fillrandom, or that one settled), and whether it
+# writes
 WORKLOADS = {
     "fillseq": ("empty", True),
     "fillbatch": ("empty", True),
@@ -65,7 +70,7 @@ def number_of(name, default):
 
 
 def compiler_of(source, program, library):
-    """The command that makes a program, and what the environment has beside."""
+    """Returns the command that makes a program, and what it adds to the environment."""
     if source.endswith(".go"):
         places = {"GO111MODULE": "off", "GOPATH": "/usr/share/gocode", "GOCACHE": f"{ROOM}/go", "GOFLAGS": ""}
         return ["go", "build", "-o", program, source], places
@@ -74,7 +79,8 @@ def compiler_of(source, program, library):
 
 
 def build(source, program, library=None):
-    """Compiles a program of this folder, where it isn't newer than its source and what that includes."""
+    """Compiles a program of this folder if it isn't newer than its source and what that
+    includes."""
     folder = os.path.dirname(source)
     sources = [source, *(f"{folder}/{it}" for it in os.listdir(folder) if it.endswith(".h"))]
     if os.path.isfile(program) and os.path.getmtime(program) > max(map(os.path.getmtime, sources)):
@@ -93,7 +99,7 @@ def build_measure():
 
 
 def twin(name):
-    """The program over another database, which is built where it isn't there."""
+    """Returns the program over another database, and builds it if it isn't there."""
     source, seen, packages, library = TWINS[name]
     os.makedirs(ROOM, exist_ok=True)
     if not os.path.isfile(seen):
@@ -104,7 +110,7 @@ def twin(name):
 
 
 def proved_program():
-    """The program under test. `rt run` makes it, and only runs it where nothing has changed since."""
+    """Returns the program under test. `rt run` makes it, or only runs it if nothing has changed."""
     given = os.environ.get("BENCH")
     if given:
         return os.path.abspath(given)
@@ -123,8 +129,8 @@ def proved_program():
 
 
 def measured(command, silent=False):
-    """Runs a program, and answers its output with the seconds of wall time and of processors and the MB that it took. What a silent one
-    prints is written to /dev/null, and not read."""
+    """Runs a program, and returns its output, the seconds of wall time and of processors, and the
+    MB that it took. What a silent one prints goes to /dev/null and isn't read."""
     ran = subprocess.run([MEASURE, *(["--silent"] if silent else []), *command], stdout=subprocess.PIPE, text=True)
     if ran.returncode:
         fail(f"{os.path.basename(command[0])} {' '.join(command[1:])} ended with status {ran.returncode}")
@@ -154,14 +160,15 @@ class Side:
             shutil.copytree(f"{other.room}/{name}", f"{self.room}/same-{name}")
 
     def run(self, workload, base=None, how=()):
-        """Runs a workload on the folder of that name, or on the workload's own; on a copy of it where the workload writes."""
+        """Runs a workload on the folder of that name, or on the workload's own folder. A workload
+        that writes gets a copy."""
         usual, writes = WORKLOADS[workload]
         folder = f"{self.room}/{base or usual}"
         if not writes:
             return measured([self.program, workload, str(self.number), folder, *how])
         copy = f"{self.room}/copy"
         shutil.copytree(folder, copy)
-        # what the copy left to be written isn't to slow the run
+        # what the copy left unwritten must not slow the run
         os.sync()
         found = measured([self.program, workload, str(self.number), copy, *how])
         shutil.rmtree(copy)
@@ -169,7 +176,8 @@ class Side:
 
 
 def by_turns(name, runs, rounds):
-    """Runs what each side has by turns, and answers the medians of what each took; stops where two outputs differ."""
+    """Runs what each side has by turns, and returns the medians of what each took. It stops if two
+    outputs differ."""
     taken = {side: [] for side in runs}
     for turn in range(rounds):
         lines = {}
@@ -185,7 +193,7 @@ def by_turns(name, runs, rounds):
 
 
 def compared(workload, sides, rounds, behind="", base=None):
-    """Answers a row: the name, and what ours and LevelDB's take."""
+    """Returns a row: the name, and what this database and LevelDB take."""
     name = f"{workload}{behind}"
     runs = {side: lambda it=it: it.run(workload, base) for side, it in zip(("ours", "LevelDB"), sides)}
     return (name, *by_turns(name, runs, rounds).values())
@@ -195,7 +203,7 @@ def compared(workload, sides, rounds, behind="", base=None):
 
 
 def version_of(name):
-    """What Debian's package of a library says, or LevelDB's own header where there is none."""
+    """Returns the version of Debian's package of a library, or the one in LevelDB's header."""
     _, seen, packages, _ = TWINS[name]
     if name == "LevelDB":
         with open(seen, encoding="utf-8") as file:
@@ -219,9 +227,12 @@ def load():
 
 
 def headline(size, rounds, begun, names=("LevelDB",)):
-    """What was run, where and when: `begun` is the load of the machine when it began."""
+    """Says what was run, where and when, in lines as a page has them. `begun` is the machine's load
+    when the run began."""
     versions = ", ".join(f"{it} {version_of(it)}" for it in names)
-    return (
-        f"{size}, {f'medians of {rounds} runs' if rounds > 1 else 'one run'}, on {time.strftime('%Y-%m-%d')}; {machine()}; {versions}. "
+    runs = f"medians of {rounds} runs" if rounds > 1 else "one run"
+    told = (
+        f"{size}, {runs}, on {time.strftime('%Y-%m-%d')}; {machine()}; {versions}. "
         f"The load of the machine was {begun:.1f} when it began and {load():.1f} when it ended."
     )
+    return textwrap.fill(told, WIDTH, break_long_words=False, break_on_hyphens=False)

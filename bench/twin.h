@@ -1,10 +1,11 @@
-// What the twins of crates/bench share: the keys and the values of the workloads, the sum over what was written or found, and the command
-// line.
+// What the twins of crates/bench share: the keys and the values of the workloads, the sum over what
+// was written or found, and the command line.
 //
-//   TWIN WORKLOAD N DIR [HOW]    runs a workload over the database of a folder, which must exist, in a way that the twin names
+//   TWIN WORKLOAD N DIR [HOW]    runs a workload over the database of an existing folder
 //
-// Keys, values, their order and the line that is printed are those of crates/bench. Status 1 where the database refuses, with its words
-// on standard error, and 2 where the command line is wrong.
+// HOW is one of the words that the twin names. Keys, values, their order and the printed line are
+// those of crates/bench. The status is 1 if the database refuses, with its words on standard error,
+// and 2 if the command line is wrong.
 #ifndef BENCH_TWIN_H_
 #define BENCH_TWIN_H_
 
@@ -31,7 +32,7 @@ constexpr uint64_t kNoiseSeed = 301;
 
 inline uint64_t Stepped(uint64_t state) { return state * 6364136223846793005u + 1442695040888963407u; }
 
-// A key is there until the next one is asked for.
+// A key is valid until the next one is asked for.
 class Keys {
  public:
   static Keys Rising() { return Keys(false, 0, 0); }
@@ -74,7 +75,7 @@ class Keys {
   char text_[kKeyBytes];
 };
 
-// What makes the keys that are looked for of the next number.
+// Makes the keys to look for of the next number.
 using Next = std::string_view (Keys::*)();
 
 class Values {
@@ -139,7 +140,7 @@ struct Asked {
   std::string workload;
   uint64_t number;
   std::string folder;
-  std::string how;  // empty where nothing is said
+  std::string how;  // empty if nothing is said
 };
 
 constexpr int kDone = 0;
@@ -151,13 +152,14 @@ inline bool IsFolder(const std::string& path) {
   return stat(path.c_str(), &file) == 0 && S_ISDIR(file.st_mode);
 }
 
-// What the words ask for; with the number 0 where they are no such words.
+// Returns what the words ask for, or the number 0 if they are no such words.
 inline Asked Parted(const std::vector<std::string>& words) {
   if (words.size() != 3 && words.size() != 4) return {"", 0, "", ""};
   return {words[0], std::strtoull(words[1].c_str(), nullptr, 10), words[2], words.size() == 4 ? words[3] : ""};
 }
 
-// Runs the workload that the words name, by what answers the words of a refusal, or none. `ways` are the words that may be the last.
+// Runs the workload that the words name; `run` returns the words of a refusal, or none. `ways` are
+// the words that may be the last.
 template <typename Workload>
 int Main(const std::string& program, const std::vector<std::string>& words, const std::map<std::string, Workload>& workloads,
          const std::set<std::string>& ways, std::string (*run)(const Workload&, const Asked&, Tally*)) {

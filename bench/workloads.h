@@ -1,4 +1,5 @@
-// The workloads of crates/bench over LevelDB's public interface, which RocksDB took over: `Of` names the types of the one or the other.
+// The workloads of crates/bench over LevelDB's public interface, which RocksDB took over. `Of`
+// names the types of the one or the other.
 #ifndef BENCH_WORKLOADS_H_
 #define BENCH_WORKLOADS_H_
 

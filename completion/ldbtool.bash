@@ -25,8 +25,8 @@ _ldbtool_values() {
     esac
 }
 
-# Sets `words`, in which an option and its value are two words, also where they are joined by '=' (bash may cut
-# them there, and then the '=' is a word too), and `last`, the word that is to be completed.
+# Sets `words`, in which an option and its value are two words, also if they are joined by '=' (bash
+# may cut them there, and then the '=' is a word too), and `last`, the word to be completed.
 _ldbtool_words() {
     local word
     words=()
@@ -43,7 +43,8 @@ _ldbtool_words() {
     unset 'words[-1]'
 }
 
-# Offers those of these words that begin as the last one does. An option with a value is joined to it by a space.
+# Offers those of these words that begin as the last one does. An option with a value is joined to
+# it by a space.
 _ldbtool_offer() {
     mapfile -t COMPREPLY < <(compgen -W "$1" -- "$last")
 }
@@ -53,7 +54,7 @@ _ldbtool_folders() {
     mapfile -t COMPREPLY < <(compgen -d -- "$last")
 }
 
-# Behind a verb: the value of an option, an option that isn't there yet, or DIR where that isn't.
+# Offers after a verb: the value of an option, an option that isn't there yet, or DIR if that isn't.
 _ldbtool_rest() {
     local verb=$1 word value= folder= ended= left
     shift

@@ -1,4 +1,5 @@
-"""What the checks of this folder share: their list, the programs under test, LevelDB, and folders."""
+"""What the checks of this folder share: their list, the programs under test, LevelDB, and
+folders."""
 import functools
 import os
 import re
@@ -13,7 +14,8 @@ from listed import CHECKS, Wrong, check, parser, run_checks  # noqa: E402,F401  
 
 
 class Order:
-    """An order of keys: how ldbtool and LevelDB are told it, and whether it is that of bytes turned round."""
+    """Holds an order of keys: how ldbtool and LevelDB are told it, and whether it is the reverse
+    order of bytes."""
 
     def __init__(self, ours, theirs, turned):
         self.ours, self.theirs, self.turned = ours, theirs, turned
@@ -24,15 +26,15 @@ REVERSE = Order(("--order", "reverse"), ("--reverse",), True)
 
 
 class Programs:
-    """The programs under test, and LevelDB behind its command line; whoever runs the checks says where they are. ldbtool and LevelDB
-    work in the order that stands here."""
+    """Holds the programs under test, and LevelDB behind its command line. Whoever runs the checks
+    says where they are. ldbtool and LevelDB work in the order that stands here."""
 
     quickstart = ldbtool = leveldb = ""
     order = BYTES
 
 
 def in_reverse(function):
-    """The same check with all keys in the order of bytes turned round."""
+    """Returns the same check with all keys in the reverse order of bytes."""
 
     @functools.wraps(function)
     def turned(room):
@@ -77,10 +79,10 @@ def ldbtool(verb, folder, script=None, flags=()):
 
 
 def prints(verb, folder, script=None, flags=()):
-    """What ldbtool prints over a folder that it is to accept."""
+    """Returns what ldbtool prints over a folder that it must accept."""
     ran = ldbtool(verb, folder, script, flags)
     want(ran.returncode == 0, f"ldbtool {verb} ended with status {ran.returncode}: {short(ran.stdout + ran.stderr)}")
-    # (but for why something was refused)
+    # (except why something was refused)
     said = [it for it in ran.stderr.splitlines() if "refused" not in ran.stdout or not it.startswith("ldbtool: ")]
     want(said == [], f"ldbtool {verb} complained: {short(ran.stderr)}")
     return ran.stdout
@@ -93,7 +95,8 @@ def want_answers(folder, script, wanted, whose, flags=()):
 
 
 def quickstart(folder):
-    """Runs the program under test over a folder, which it is to accept: the value before, and the log."""
+    """Runs the program under test over a folder that it must accept. Returns the value before, and
+    the log."""
     ran = run([Programs.quickstart, folder])
     want(ran.returncode == 0, f"quickstart ended with status {ran.returncode}: {short(ran.stderr)}")
     lines = ran.stdout.split("\n")
@@ -103,7 +106,8 @@ def quickstart(folder):
 
 
 def refused(folder, name):
-    """Runs the program under test over a folder, which it is to refuse by this name and to leave as it is."""
+    """Runs the program under test over a folder that it must refuse by this name, and leave as it
+    is."""
     before = contents(folder)
     ran = run([Programs.quickstart, folder])
     want(ran.returncode == 1, f"quickstart ended with status {ran.returncode}, not 1: {short(ran.stdout + ran.stderr)}")
@@ -118,7 +122,7 @@ def leveldb_writes(folder, lines, *flags):
 
 
 def leveldb_reads(folder, *flags):
-    """What LevelDB finds in a copy of the folder, as a map."""
+    """Returns what LevelDB finds in a copy of the folder, as a map."""
     with tempfile.TemporaryDirectory(prefix="interop-") as room:
         copy = copied(folder, room)
         ran = run([Programs.leveldb, "dump", *Programs.order.theirs, *flags, copy])
@@ -130,7 +134,7 @@ def leveldb_reads(folder, *flags):
 
 
 def leveldb(verb, folder, *flags, lines=()):
-    """What LevelDB prints, over the folder itself."""
+    """Returns what LevelDB prints, over the folder itself."""
     ran = run([Programs.leveldb, verb, *Programs.order.theirs, *flags, folder], input="".join(line + "\n" for line in lines))
     want(ran.returncode == 0, f"LevelDB did not {verb}: {short(ran.stderr)}")
     return ran.stdout
@@ -150,7 +154,8 @@ def copied(folder, room):
 
 
 def contents(folder):
-    """The names and bytes of a folder, but for LevelDB's own text file LOG and the empty LOCK."""
+    """Returns the names and bytes of a folder, without LevelDB's text file LOG and the empty
+    LOCK."""
     found = {}
     for name in sorted(os.listdir(folder)):
         if name not in ("LOG", "LOG.old", "LOCK"):
@@ -178,7 +183,7 @@ def want_logs_alone(folder):
 
 
 def sequence_of(log):
-    """The sequence of the one batch of a log that quickstart has just made."""
+    """Returns the sequence of the one batch of a log that quickstart has just made."""
     want(len(log) >= FRAGMENT_HEADER + 8, f"the log has {len(log)} bytes")
     return struct.unpack_from("<Q", log, FRAGMENT_HEADER)[0]
 

@@ -1,15 +1,19 @@
-"""The checks between this database and LevelDB itself. `interop/run` builds what they need and starts them.
+"""The checks between this database and LevelDB itself. `interop/run` builds what they need and
+starts them.
 
 usage: checks.py [--only WORD] [--list] QUICKSTART LDBTOOL LEVELDB_DRIVER
 
-QUICKSTART and LDBTOOL are the programs under test; what is checked of the first stands in logs.py and faults.py, of the second in
-tables.py, over whole directories in directories.py, and by turns with LevelDB in turns.py. QUICKSTART opens the folder that it is given, prints the value that
-the key `61` has there ("none" where it has none), writes `61` = `31`, prints the value of `61`, closes, and prints the log
-that it wrote to, each on a line of its own and in hexadecimal. What they must print is taken from LevelDB, or from what
-LevelDB was told to write, never from themselves.
+QUICKSTART and LDBTOOL are the programs under test. The checks of the first stand in logs.py and
+faults.py, those of the second in tables.py, over whole directories in directories.py, and by turns
+with LevelDB in turns.py.
 
-LevelDB moves what logs hold into a table whenever it opens a folder without reuse_logs. Where a check wants the folder
-as it is, LevelDB therefore reads a copy of it, or opens it with reuse_logs.
+QUICKSTART opens the folder that it is given, and prints the value of the key `61` there, or "none".
+It writes `61` = `31`, prints the value of `61`, closes, and prints the log that it wrote to. Each
+stands on its own line, in hexadecimal. What the programs must print is taken from LevelDB, or from
+what LevelDB was told to write, never from themselves.
+
+LevelDB moves what logs hold into a table whenever it opens a folder without reuse_logs. If a check
+wants the folder as it is, LevelDB therefore reads a copy of it, or opens it with reuse_logs.
 """
 import importlib
 import os

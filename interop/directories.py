@@ -1,7 +1,8 @@
-"""The checks of LDBTOOL over directories that LevelDB made by random histories: several opens, tables in several levels.
+"""Checks of LDBTOOL over directories that LevelDB made by random histories, with several opens and
+tables in several levels.
 
-What a directory has is taken from LevelDB: its MANIFEST, its tables and its logs as DumpFile prints them, and the pairs
-that its iterators and gets find in a copy.
+What a directory has is taken from LevelDB: its MANIFEST, its tables and its logs as DumpFile prints
+them, and the pairs that its iterators and gets find in a copy.
 """
 import functools
 import os
@@ -33,7 +34,7 @@ from beside import (
 )
 from layout import Layout, pairs_of, want_dump
 
-# of each order those of its directories
+# the directories of each order
 SEEDS = {BYTES: range(1, 21), REVERSE: range(21, 29)}
 CHANGES = 12
 
@@ -47,7 +48,7 @@ def seeds():
 
 @functools.lru_cache(maxsize=None)
 def history(seed):
-    """A directory that LevelDB made, kept for all checks; they copy what they change."""
+    """Makes a directory by LevelDB, kept for all checks; they copy what they change."""
     folder = os.path.join(tempfile.mkdtemp(prefix="interop-history-"), "folder")
     leveldb("history", folder, f"--seed={seed}")
     return folder
@@ -118,14 +119,14 @@ def changed(_room):
 
 
 def between(chance, keys):
-    """Keys that may be there, and others before, between and behind them."""
+    """Returns keys that may be there, and others before, between and after them."""
     found = chance.sample(sorted(keys), min(len(keys), 60))
     near = [key + "00" for key in found[:20] if key != "-"] + [key[:-2] or "-" for key in found[20:40] if key != "-"]
     return [*found, *near, "-", "ff" * 20, "6b6579", *[chance.randbytes(5).hex() for _ in range(20)]]
 
 
 def want_reads(folder, chance):
-    """Has a script read a copy of the folder: gets, seeks, and a walk over all pairs in both directions."""
+    """Has a script read a copy of the folder: gets, seeks, and all pairs in both directions."""
     pairs = leveldb_reads(folder)
     walk = [f"at {key} {value}" for key, value in pairs.items()]
     asked = between(chance, pairs)
@@ -142,7 +143,7 @@ def want_reads(folder, chance):
 
 
 def want_writes(folder, chance):
-    """Has a script write to a copy of the folder, twice, and LevelDB read what is there then."""
+    """Has a script write to a copy of the folder, twice, and LevelDB read the result."""
     pairs = leveldb_reads(folder)
     with tempfile.TemporaryDirectory(prefix="interop-") as room:
         copy = copied(folder, room)

@@ -1,11 +1,11 @@
-"""Entries of tables, drawn by a seed, and what each is in the words of scripts, of dumps and of LevelDB."""
+"""Entries of tables, drawn by a seed, and each one's form in scripts, in dumps and for LevelDB."""
 import random
 
 from beside import spelled, want
 
 
 class Entry:
-    """An entry of a table. A delete has no value."""
+    """Holds an entry of a table. A delete has no value."""
 
     def __init__(self, key, sequence, value):
         self.key, self.sequence, self.value = key, sequence, value
@@ -14,12 +14,12 @@ class Entry:
         return self.key, -self.sequence
 
     def line(self):
-        """The line of a dump, behind the table's level and number."""
+        """Returns the line of a dump, after the table's level and number."""
         end = "delete" if self.value is None else f"put {spelled(self.value)}"
         return f"{spelled(self.key)} {self.sequence} {end}\n"
 
     def write(self):
-        """The line with which it is written, by LevelDB's driver and by a script."""
+        """Returns the line that writes it, for LevelDB's driver and for a script."""
         return f"del {spelled(self.key)}" if self.value is None else f"put {spelled(self.key)} {spelled(self.value)}"
 
 
@@ -28,17 +28,17 @@ def lines_of(entries):
 
 
 def newest(entries):
-    """The newest entry of each key."""
+    """Returns the newest entry of each key."""
     return list({entry.key: entry for entry in sorted(entries, key=lambda entry: entry.sequence)}.values())
 
 
 def map_of(entries):
-    """What a database of these entries has."""
+    """Returns what a database of these entries has."""
     return {spelled(entry.key): spelled(entry.value) for entry in newest(entries) if entry.value is not None}
 
 
 def rows_of(entries):
-    """Its pairs, by rising keys."""
+    """Returns its pairs, by rising keys."""
     return sorted(map_of(entries).items(), key=lambda pair: pair[0].replace("-", ""))
 
 
@@ -53,7 +53,8 @@ def a_value(chance):
 
 
 def some_keys(chance, count):
-    """Keys of several lengths and any bytes, of which many share their fronts, and the empty one."""
+    """Returns keys of several lengths and any bytes, many of which share prefixes, and the empty
+    one."""
     fronts = [chance.randbytes(length) for length in (0, 1, 3, 10, 40)]
     ends = [chance.randbytes(chance.choice([0, 1, 2, 2, 8, 30])) for _ in range(count)]
     runs = [b"key" + b"%05d" % number for number in range(count // 3)]
@@ -62,7 +63,7 @@ def some_keys(chance, count):
 
 
 def some_entries(seed):
-    """Some thousand entries: puts and deletes, several of some keys, and some long values."""
+    """Returns some thousand entries: puts and deletes, several of some keys, some long values."""
     chance = random.Random(seed)
     keys = some_keys(chance, 2500)
     keys += chance.choices(keys, k=300) + chance.choices(keys[:40], k=200)

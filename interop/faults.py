@@ -1,4 +1,4 @@
-"""The checks of logs that were cut or changed, of the lock, and of what is known to differ."""
+"""Checks of logs that were cut or changed, of the lock, and of what is known to differ."""
 import contextlib
 import fcntl
 import os
@@ -36,7 +36,8 @@ LARGE_VALUE = "c3" * 16_000_000
 
 
 def cut_alike(room, lines, behind):
-    """Cuts LevelDB's log at each of these numbers of bytes behind its last record's start, and has both read it."""
+    """Cuts LevelDB's log at each of these numbers of bytes after its last record's start, and has
+    both read it."""
     made = os.path.join(room, "made")
     leveldb_writes(made, lines[:-1])
     start = os.path.getsize(last_log(made))
@@ -123,7 +124,7 @@ def quickstart_against_leveldb(room):
 
 
 def is_locked(folder):
-    """Whether a process holds a lock on LOCK, without taking one."""
+    """Says whether a process holds a lock on LOCK, without taking one."""
     wanted = struct.pack("hhqqi", fcntl.F_WRLCK, os.SEEK_SET, 0, 0, 0)
     try:
         with open(os.path.join(folder, "LOCK"), "rb+") as file:
@@ -135,8 +136,8 @@ def is_locked(folder):
 
 @contextlib.contextmanager
 def held_by_quickstart(folder):
-    """Runs quickstart over a folder whose log takes it a while to read, and has it stand still with the database open
-    while the body runs."""
+    """Runs quickstart over a folder whose log takes it a while to read, and stops it with the
+    database open while the body runs."""
     leveldb_writes(folder, [f"put 62 {LARGE_VALUE}"])
     want_logs_alone(folder)
     for _ in range(5):

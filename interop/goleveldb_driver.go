@@ -6,7 +6,8 @@
 //	goleveldb_driver repair DIR      makes a database of the files that lie there (RecoverFile)
 //	goleveldb_driver hold DIR        opens it, prints "held", and keeps it open until its input ends
 //
-// Status 1 where goleveldb refuses, with its words on standard error, and 2 where the command line is wrong.
+// The status is 1 if goleveldb refuses, with its words on standard error, and 2 if the command line
+// is wrong.
 package main
 
 import (

@@ -1,11 +1,13 @@
-"""What LevelDB says of a directory's files: its MANIFEST, its tables and its logs, as DumpFile prints them."""
+"""Reads what LevelDB says of a directory's files: its MANIFEST, its tables and its logs, as
+DumpFile prints them."""
 import os
 
 from beside import files_of, leveldb, want_lines
 
 
 def escaped(text):
-    """Bytes as LevelDB prints them between quotes (util/logging.cc, AppendEscapedStringTo)."""
+    """Returns the bytes that LevelDB prints between quotes (util/logging.cc,
+    AppendEscapedStringTo)."""
     found = b"" if text == "-" else bytes.fromhex(text)
     return "".join(chr(byte) if 32 <= byte <= 126 else f"\\x{byte:02x}" for byte in found)
 
@@ -15,7 +17,7 @@ def dumped_by_leveldb(path):
 
 
 class Layout:
-    """What the edits of a MANIFEST leave."""
+    """Holds what the edits of a MANIFEST leave."""
 
     def __init__(self, folder):
         self.folder, self.tables = folder, set()
@@ -42,7 +44,7 @@ class Layout:
         return os.path.join(self.folder, f"{number:06d}.{ending}")
 
     def batches(self, number):
-        """The sequence and the number of operations of each batch of a log."""
+        """Returns the sequence and the number of operations of each batch of a log."""
         found = []
         for line in dumped_by_leveldb(self.path(number, "log")):
             if line.startswith("--- offset"):
@@ -52,7 +54,7 @@ class Layout:
         return found
 
     def report(self):
-        """What a check of the directory is to print."""
+        """Returns what a check of the directory must print."""
         tables = [f"table {level} {number} {len(dumped_by_leveldb(self.path(number)))}" for level, number in sorted(self.tables)]
         last, logs = self.last_sequence, []
         for number in self.logs:
@@ -63,7 +65,8 @@ class Layout:
 
 
 def like_table(line):
-    """A line of a dump as DumpFile has it for a table, or for a log without the batches' heads."""
+    """Returns a line of a dump as DumpFile has it for a table, or for a log without the batches'
+    heads."""
     words = line.split()
     if words[0] == "table":
         key, sequence, kind, value = words[3], words[4], words[5], words[6:] or ["-"]
@@ -82,7 +85,7 @@ def want_dump(layout, text):
 
 
 def pairs_of(text):
-    """The pairs that the newest entries of a dump make."""
+    """Returns the pairs that the newest entries of a dump make."""
     newest = {}
     for line in text.splitlines():
         words = line.split()

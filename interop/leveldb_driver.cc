@@ -1,44 +1,45 @@
 // LevelDB itself, by its public interface, for the checks of this folder.
 //
-//   leveldb_driver version                 the version of LevelDB, as 1.23
-//   leveldb_driver dump FLAGS FOLDER       opens a database and prints its pairs, one line each
-//   leveldb_driver get FLAGS FOLDER        opens a database and prints the value of each key of standard input, or "none"
-//   leveldb_driver seek FLAGS FOLDER       the same of the first pair whose key doesn't come before it, or "end"
-//   leveldb_driver write FLAGS FOLDER      opens or makes a database and applies the lines of standard input
-//   leveldb_driver script FLAGS FOLDER     answers the lines of a script of `ldbtool run`, one by one: open, close, put, del, write, compact
-//                                          all and work, which LevelDB does by itself, so that it is answered "idle"
-//   leveldb_driver maps FLAGS              opens or makes a database in each folder that a line of standard input names, and prints its
-//                                          pairs and "end", or "refused" and why
-//   leveldb_driver history FLAGS FOLDER    makes a database by a random history: opens, writes, deletes, batches, snapshots,
-//                                          compactions, each open with options of its own. --seed says which
-//   leveldb_driver file FLAGS FILE         prints what a MANIFEST, a log or a table holds (DumpFile), without a database
-//   leveldb_driver compact FLAGS FOLDER    opens a database and compacts all of it (CompactRange)
-//   leveldb_driver repair FLAGS FOLDER     makes a database of the files that lie in a folder (RepairDB)
-//   leveldb_driver hold FLAGS FOLDER       opens a database, prints "held", and keeps it open until its input ends
+//     leveldb_driver version                 the version of LevelDB, as 1.23
+//     leveldb_driver dump FLAGS FOLDER       opens a database and prints its pairs, one line each
+//     leveldb_driver get FLAGS FOLDER        prints the value of each key of its input, or "none"
+//     leveldb_driver seek FLAGS FOLDER       prints the first pair not before each key, or "end"
+//     leveldb_driver write FLAGS FOLDER      applies the lines of standard input
+//     leveldb_driver script FLAGS FOLDER     answers the lines of a script of `ldbtool run`
+//     leveldb_driver maps FLAGS              prints the pairs of each folder that its input names
+//     leveldb_driver history FLAGS FOLDER    makes a database by a random history
+//     leveldb_driver file FLAGS FILE         prints a MANIFEST, a log or a table (DumpFile)
+//     leveldb_driver compact FLAGS FOLDER    compacts all of a database (CompactRange)
+//     leveldb_driver repair FLAGS FOLDER     makes a database of a folder's files (RepairDB)
+//     leveldb_driver hold FLAGS FOLDER       opens, prints "held", and closes at its input's end
 //
-// Keys and values are in hexadecimal, "-" for the empty string. The lines of `write` are "put KEY VALUE" and
-// "del KEY"; those between "begin" and "end" are one batch. Status 1 where LevelDB refuses, with its words on
-// standard error, and 2 where the command line or a line of input is wrong.
+// Keys and values are in hexadecimal, "-" for the empty string. The lines of `write` are "put KEY
+// VALUE" and "del KEY"; those between "begin" and "end" are one batch. `write` and `maps` make a
+// database if there is none. After each folder `maps` prints "end", or "refused" and why. A history
+// has opens, writes, deletes, batches, snapshots and compactions, each open with its own options. A
+// script may have open, close, put, del, write, compact all and work. LevelDB works by itself, so
+// `work` is answered "idle".
 //
-// Every database is opened with paranoid_checks, read with verify_checksums, and without compression and filter policy
-// where no flag says otherwise. FLAGS are none or some of
+// The status is 1 if LevelDB refuses, with its words on standard error, and 2 if the command line
+// or a line of input is wrong. Every database is opened with paranoid_checks, read with
+// verify_checksums, and without compression and filter policy if no flag says otherwise. FLAGS are
 //
-//   --reuse              goes on with the log and the MANIFEST that are there (reuse_logs). Without it LevelDB
-//                        moves what the logs hold into a table
-//   --other-comparator   orders the keys by a comparator of another name
-//   --reverse            orders the keys by their bytes turned round, as `ldbtool --order reverse` does
-//   --filter             a Bloom filter of 10 bits a key
-//   --snappy             compression by Snappy
-//   --block-bytes=N      block_size
-//   --restarts=N         block_restart_interval
-//   --file-bytes=N       max_file_size
-//   --write-buffer=N     write_buffer_size (LevelDB takes 65,536 for less)
-//   --lenient            no paranoid_checks
-//   --unverified         no verify_checksums
-//   --on                 `get` goes on behind a key that is refused, for which it prints "refused"
-//   --backwards          `dump` goes from the last pair to the first
-//   --seed=N             which history
-//   --operations=N       how many operations a history has (10000)
+//     --reuse              goes on with the log and the MANIFEST that are there (reuse_logs); without
+//                          it LevelDB moves what the logs hold into a table
+//     --other-comparator   orders the keys by a comparator of another name
+//     --reverse            orders the keys by reversed bytes, as `ldbtool --order reverse` does
+//     --filter             a Bloom filter of 10 bits a key
+//     --snappy             compression by Snappy
+//     --block-bytes=N      block_size
+//     --restarts=N         block_restart_interval
+//     --file-bytes=N       max_file_size
+//     --write-buffer=N     write_buffer_size (LevelDB takes 65,536 for less)
+//     --lenient            no paranoid_checks
+//     --unverified         no verify_checksums
+//     --on                 `get` prints "refused" for a key that is refused, and goes on
+//     --backwards          `dump` goes from the last pair to the first
+//     --seed=N             which history
+//     --operations=N       how many operations a history has (10000)
 
 #include <unistd.h>
 
@@ -104,8 +105,9 @@ class OtherComparator : public leveldb::Comparator {
   void FindShortSuccessor(std::string*) const override {}
 };
 
-// LevelDB's own order turned round, so that a proper prefix comes last, under the name that `ldbtool --order reverse` records. No
-// key is shortened: what lies between two keys in the one order doesn't in the other.
+// LevelDB's own order reversed, so that a proper prefix comes last, under the name that
+// `ldbtool --order reverse` records. No key is shortened: what lies between two keys in one order
+// doesn't in the other.
 class ReverseComparator : public leveldb::Comparator {
  public:
   int Compare(const leveldb::Slice& a, const leveldb::Slice& b) const override { return b.compare(a); }
@@ -124,7 +126,8 @@ struct Database {
   int operations = 10000;
 };
 
-// What a flag says of a database. The comparator and the filter policy are kept to the end of the program.
+// Holds what the flags say of a database. The comparator and the filter policy live to the end of
+// the program.
 bool TakeFlag(const std::string& flag, Database* database) {
   static const OtherComparator other;
   static const ReverseComparator reverse;
@@ -301,7 +304,7 @@ class Scripted {
  public:
   explicit Scripted(const Database& database) : database_(database) {}
 
-  // What a line is answered, or nothing, where it is none.
+  // Returns the answer to a line, or nothing if it is no line of a script.
   std::string Answer(const std::string& line) {
     std::istringstream words(line);
     std::string verb, rest;
@@ -328,7 +331,7 @@ class Scripted {
  private:
   static std::string Told(const leveldb::Status& status) { return status.ok() ? "ok" : "refused " + status.ToString(); }
 
-  // Adds operations that stand one behind the other.
+  // Adds operations that stand one after the other.
   static bool AddWords(const std::string& text, leveldb::WriteBatch* batch) {
     std::istringstream words(text);
     for (std::string verb, key, value; words >> verb;) {
@@ -359,7 +362,7 @@ int Script(const Database& database) {
   return 0;
 }
 
-// The choices of a history.
+// Draws the choices of a history.
 class Chance {
  public:
   explicit Chance(uint64_t seed) : bits_(seed) {}
@@ -377,7 +380,7 @@ class Chance {
     return bytes;
   }
 
-  // One of some thousand keys: most share fronts, some have any bytes, one is empty.
+  // Draws one of some thousand keys: most share prefixes, some have any bytes, one is empty.
   std::string Key() {
     const uint64_t n = Below(4000);
     if (n == 0) return "";
@@ -427,7 +430,8 @@ void AddSome(leveldb::WriteBatch* batch, Chance* chance, uint64_t count) {
   }
 }
 
-// One open with so many writes. Snapshots keep old versions of keys through the compactions meanwhile.
+// Does one open with so many writes. Snapshots keep old versions of keys through the compactions
+// meanwhile.
 leveldb::Status Live(leveldb::DB* db, const leveldb::Comparator* comparator, Chance* chance, int operations) {
   std::vector<const leveldb::Snapshot*> snapshots;
   leveldb::Status status;

@@ -1,4 +1,4 @@
-"""The checks of logs: what quickstart writes is read by LevelDB, and what LevelDB writes by quickstart."""
+"""Checks of logs: LevelDB reads what quickstart writes, and quickstart what LevelDB writes."""
 import os
 
 from beside import (
@@ -22,7 +22,8 @@ from beside import (
 
 
 def theirs(name, opens):
-    """A folder that LevelDB made in some opens, its state in logs alone, each open with these lines."""
+    """Returns a folder that LevelDB made in some opens, with its state in logs alone, each open
+    with these lines."""
 
     @check(f"theirs to ours: {name}")
     def read(room):
@@ -32,7 +33,7 @@ def theirs(name, opens):
         read_and_go_on(folder, operations_in(opens))
 
 
-# ---- ours to theirs
+# ---- from quickstart to LevelDB
 
 
 @check("ours to theirs: a fresh folder holds exactly the pair")
@@ -90,7 +91,7 @@ def by_plyvel(room):
     want(found == [(bytes.fromhex(KEY), bytes.fromhex(WRITTEN))], f"plyvel finds {found}")
 
 
-# ---- theirs to ours
+# ---- from LevelDB to quickstart
 
 theirs("a fresh database with a few writes", [["put 62 3232", f"put {KEY} 6f6e65", "put 63 33"]])
 theirs("a database without the key", [["put 60 00", "put 62 00", "del 62"]])
@@ -127,7 +128,8 @@ theirs("four opens of one log, a delete in the last", [[f"put {KEY} 01"], ["put 
 @check("theirs to ours: a block of the log that ends with 0 to 8 bytes left")
 def block_ends(room):
     for left in range(9):
-        # the header of a fragment, of a batch and of a put with a key of one byte and a length of three bytes
+        # the header of a fragment, of a batch and of a put with a key of one byte and a length of
+        # three bytes
         length = BLOCK - left - FRAGMENT_HEADER - 12 - 1 - 2 - 3
         folder = os.path.join(room, str(left))
         leveldb_writes(folder, [f"put 62 {'5a' * length}", f"put {KEY} 0{left}"])

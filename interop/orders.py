@@ -1,6 +1,8 @@
-"""The checks of LDBTOOL and LevelDB under the order of bytes turned round, which LevelDB is told by a comparator of that name.
+"""Checks of LDBTOOL and LevelDB under the reverse order of bytes, which LevelDB is told by a
+comparator of that name.
 
-Those over directories and by turns are run again so; and each refuses the other's directory under the order that it isn't in.
+The checks over directories and by turns run again so. Each side refuses the other's directory under
+the order that it isn't in.
 """
 from beside import (
     CHECKS,
@@ -23,7 +25,7 @@ from beside import (
 for name, function in [it for it in CHECKS if it[0].startswith(("directories", "turns"))]:
     check(f"reverse: {name}")(in_reverse(function))
 
-# a key, the keys that it is a front of, and others about them: least first in the order of bytes
+# a key, keys that begin with it, and others about them: least first in the order of bytes
 KEYS = ["-", "00", "0000", "61", "6100", "6161", "61ff", "62", "fe", "ff", "ff00", "ffff"]
 LINES = [f"put {key} {number:02x}" for number, key in enumerate(KEYS)]
 

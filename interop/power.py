@@ -1,5 +1,6 @@
-"""The checks of what a stop and a loss of power may leave of ldbtool's sessions and of LevelDB's, by the recording and the model of
-tools/stops (tools/recorded.py, tools/remains.py). What LevelDB does by itself it does while a script goes on."""
+"""Checks of what a crash and a power loss may leave of ldbtool's sessions and of LevelDB's, by the
+recording and the model of tools/stops (tools/recorded.py, tools/remains.py). LevelDB's own work
+goes on while a script runs."""
 import collections
 import functools
 import os
@@ -13,14 +14,15 @@ from remains import History, losses, losses_in_any_order, stops
 from running import under_test
 from shims import built_shim
 
-# by which seed losses are drawn
+# the seed by which losses are drawn
 SEED = 1
 
 # LevelDB's least write buffer, which these writes fill
 BUFFER = 65_536
 LARGE = [f"put {key} {key * 30_000}" for key in ("61", "62", "63")]
 
-# what is written with sync comes behind what isn't, in a log of its own: the other one was sealed, or found by an open
+# a synced write follows an unsynced one, in its own log: the other log was sealed, or found by an
+# open
 SEALED = [
     "open new", *LARGE, "work 9", "write sync put 64 04", "put 65 05", "work 9", "write sync put 61 06", "close", "open", "put 66 07", "close",
 ]  # fmt: skip
@@ -42,7 +44,8 @@ def command_of(whose):
 
 
 def recorded(room, whose, script):
-    """The session, with tables that take a while to be synced, so that LevelDB's writes go on meanwhile."""
+    """Records the session, with tables that take a while to be synced, so that LevelDB's writes go
+    on meanwhile."""
     folder = new_folder(room, f"folder of {whose}")
     recording = Recording(built_shim(room, "recording_calls"), folder, os.path.join(room, f"record of {whose}"), SLOW_SYNC="200")
     recording.run(command_of(whose), script)
@@ -54,8 +57,8 @@ def recorded(room, whose, script):
 
 
 class Readers:
-    """Opens what is left by both, each state once, and wants them to find the same. What it answers is what is found by the one whose
-    session it is."""
+    """Opens what is left by both, each state once, and checks that they find the same. It returns
+    what the one finds whose session it is."""
 
     def __init__(self, opener):
         self.opener, self.known, self.whose = opener, {}, OURS
@@ -77,11 +80,11 @@ class Readers:
 
 
 def is_without_current(files):
-    """The known difference: we take it for damaged, and LevelDB makes a database there."""
+    """Says whether it is the known difference: damaged for ldbtool, a new database for LevelDB."""
     return "CURRENT" not in files and any(name.endswith((".log", ".ldb")) for name in files)
 
 
-# ---- losses of power, on three devices
+# ---- power losses, on three devices
 
 # each with how many losses are drawn
 DEVICES = {
@@ -94,7 +97,7 @@ HELD, REFUSED, GONE, GAP = "as promised", "refused", "a synced batch gone", "a b
 
 
 def kind(story, remains, found):
-    """What became of what ldbtool is to promise."""
+    """Says what became of ldbtool's promise."""
     if found.refusal:
         return REFUSED
     if not breach_of_loss(story, remains, found):
@@ -103,7 +106,7 @@ def kind(story, remains, found):
 
 
 def is_one_gone(story, moment, pairs):
-    """Whether a key has a value from before a batch that was synced and answered by then."""
+    """Says whether a key has a value from before a batch that was synced and answered by then."""
     count, _, is_under_way = story.accepted(moment)
     batches = story.batches[: count + is_under_way]
     for number, batch in enumerate(batches[:count]):
@@ -114,7 +117,7 @@ def is_one_gone(story, moment, pairs):
 
 
 def left(recording, device, readers):
-    """How many states of each kind there are among those that a loss of power may leave."""
+    """Counts the states of each kind among those that a power loss may leave."""
     keeps_names, states, count = DEVICES[device]
     history = History(recording, recording.calls(), keeps_names)
     story = Story(recording, history)
@@ -130,8 +133,8 @@ def want_stops(recording, readers):
         want(not wrong, f"{it.way}: {wrong}")
 
 
-# what is seen on each device beside what is as promised; where names come in any order, at least, and whether it is refused.
-# docs/INTEROP.md says it in words
+# what is seen on each device besides what is as promised (at least, if names come in any order),
+# and whether it is refused; docs/COMPATIBILITY.md says it in words
 SEEN = {
     "a log that is sealed": (SEALED, {
         OURS: (set(), set(), set()),
@@ -152,7 +155,8 @@ SEEN = {
 
 
 def power(script, seen, room):
-    """A session of each, every stop of which leaves all that was answered; and losses of power, which leave what is written above."""
+    """Runs a session of each. Every crash must leave all that was answered, and power losses what
+    is written above."""
     under_test(Programs.ldbtool)
     with Opener(room, Programs.leveldb) as opener:
         readers = Readers(opener)
@@ -161,7 +165,7 @@ def power(script, seen, room):
 
 
 def shares(room, whose, script, wanted, readers):
-    """How many states aren't as promised on each device, and of how many."""
+    """Says how many states aren't as promised on each device, and of how many."""
     recording, readers.whose = recorded(room, whose, script), whose
     want_stops(recording, readers)
     for device, kinds in zip(DEVICES, wanted):
@@ -175,7 +179,8 @@ def shares(room, whose, script, wanted, readers):
 
 @check("known difference: zeros behind a log's records are refused as Corrupt")
 def zeros(room):
-    """A device may leave them that keeps how long a file is before it has its bytes."""
+    """Checks zeros in a log, which a device may leave that keeps a file's length before its
+    bytes."""
     folder = new_folder(room)
     leveldb_writes(folder, ["put 61 01", "put 62 02"])
     with open(last_log(folder), "ab") as log:

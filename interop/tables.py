@@ -1,6 +1,7 @@
-"""The checks of tables: those that LDBTOOL writes and LevelDB reads, and LevelDB's that LDBTOOL prints.
+"""Checks of tables: LevelDB reads those that LDBTOOL writes, and LDBTOOL prints LevelDB's.
 
-A table of given entries, with deletes and several versions of a key, is what `work` makes of a memory table: it drops nothing.
+`work` makes a table of given entries, with deletes and several versions of a key, from a memory
+table: it drops nothing.
 """
 import os
 import random
@@ -32,7 +33,8 @@ FOOTER = 48
 
 
 def dumped(folder):
-    """The entries of each table of a directory that a check takes, as LDBTOOL prints them, by the table's number."""
+    """Returns the entries of each table of a directory that a check accepts, as LDBTOOL prints
+    them, by the table's number."""
     want(prints("check", folder).startswith("good\n"), "a check refuses the directory")
     found = {}
     for line in prints("dump", folder).splitlines(keepends=True):
@@ -43,7 +45,7 @@ def dumped(folder):
 
 
 def our_table(folder, entries, block_bytes):
-    """Has LDBTOOL make a database of these entries, all of them in one table: its name."""
+    """Has LDBTOOL make a database of these entries, all in one table, and returns its name."""
     lines = [entry.write() for entry in by_sequence(entries)]
     script = ["open new", *lines, "work 1", "work 1", "close"]
     answers = ["ok", *["ok" for _ in lines], "worked", "worked", "ok"]
@@ -56,7 +58,8 @@ def our_table(folder, entries, block_bytes):
 
 
 def leveldb_tables(folder, entries, *flags):
-    """Has LevelDB write these entries by their sequences, and make tables of its logs: the names."""
+    """Has LevelDB write these entries by their sequences, and make tables of its logs. Returns the
+    names."""
     leveldb("write", folder, *flags, lines=["begin", *[entry.write() for entry in by_sequence(entries)], "end"])
     leveldb("dump", folder, *flags)
     return files_of(folder, ".ldb")
@@ -70,7 +73,7 @@ def same_small_table(room):
     wanted = bytes_of(os.path.join(theirs, name))
     want(len(wanted) == 176, f"LevelDB's table has {len(wanted)} bytes")
     our_table(flushed, entries, 4096)
-    # `work` takes the table away that the compaction has read
+    # `work` removes the table that the compaction has read
     script = ["open new", f"put {KEY} {WRITTEN}", "compact all", "work 1", "close"]
     want_answers(compacted, script, ["ok", "ok", "ok", "idle", "ok"], "a compaction")
     want(dumped(compacted) == {5: [f"{KEY} 1 put {WRITTEN}\n"]}, f"a compaction left {dumped(compacted)}")
@@ -81,9 +84,10 @@ def same_small_table(room):
 
 
 def like_leveldb(block_bytes):
-    """Entries of a table that has one form only. LevelDB shortens keys of the index, but none where each key follows the
-    one before it and the last is all ones; and it adds empty filters up to the table's end, but none behind a last block
-    of less than 2 KiB, as is made here by a value that ends the block before it."""
+    """Returns entries of a table that has one form only. LevelDB shortens keys of the index, but
+    none if each key follows the one before it and the last is all ones. It adds empty filters up to
+    the table's end, but none after a last block of less than 2 KiB. A value that ends the block
+    before makes such a last block."""
     chance = random.Random(block_bytes)
     keys = [struct.pack(">H", number) for number in range(65536 - 1500, 65536)]
     keys += keys[200:260] * 5
@@ -137,7 +141,8 @@ def tables_to_leveldb(room):
 
 
 def want_dumped(folder, entries):
-    """Has LDBTOOL print the tables of a directory, which together have these entries: how many there are."""
+    """Has LDBTOOL print the tables of a directory, which together must have these entries. Returns
+    how many tables there are."""
     found = dumped(folder)
     wanted = lines_of(entries).splitlines(keepends=True)
     names = files_of(folder, ".ldb")
@@ -173,7 +178,7 @@ def tables_from_leveldb(room):
         ]
         leveldb("write", folder, *flags, lines=["begin", *[entry.write() for entry in later], "end"])
         leveldb("compact", folder, *flags, "--file-bytes=1048576")
-        # LevelDB takes old files away when it opens a folder.
+        # LevelDB removes old files when it opens a folder.
         leveldb("dump", folder, *flags)
         kept = [entry for entry in newest(entries + later) if entry.value is not None]
         several += want_dumped(folder, kept) > 1
@@ -203,7 +208,8 @@ REFUSED = re.compile(r"refused (5 Corrupt|6 Unsupported)\n")
 
 
 def want_right_or_refused(folder, wanted, what):
-    """Has LDBTOOL print a table that was changed: what it had before, or a refusal alone. Whether it was refused."""
+    """Has LDBTOOL print a table that was changed: what it had before, or a refusal alone. Returns
+    whether it was refused."""
     ran = ldbtool("dump", folder)
     if ran.returncode == 0:
         want_lines(ran.stdout, wanted, what)
@@ -214,7 +220,8 @@ def want_right_or_refused(folder, wanted, what):
 
 
 def want_walk_or_refusal(folder, rows, what):
-    """Has a script walk over a copy of a table that was changed: each pair that it had before, up to a refusal. Whether there was one."""
+    """Has a script iterate over a copy of a table that was changed: each pair that it had before,
+    up to a refusal. Returns whether there was one."""
     script = ["open", "iter", "first 1", *["next 1" for _ in rows]]
     wanted = ["ok", "iter 1", *[f"at {key} {value}" for key, value in rows], "end"]
     with tempfile.TemporaryDirectory(prefix="interop-") as room:

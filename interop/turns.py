@@ -1,6 +1,7 @@
-"""The checks of LDBTOOL and LevelDB by turns on one directory: each writes, flushes and compacts by its own rules.
+"""Checks of LDBTOOL and LevelDB by turns on one directory: each writes, flushes and compacts by its
+own rules.
 
-What the directory has is what was written to it; after each turn both are to find exactly that.
+The directory has what was written to it. After each turn both must find exactly that.
 """
 import os
 import random
@@ -17,7 +18,7 @@ SIZES = ["--write-buffer", "2048", "--level0-files", "2", "--base-bytes", "6000"
 
 
 def changes(chance, pairs):
-    """Lines that put and delete keys; what is there then is kept in the map."""
+    """Returns lines that put and delete keys, and keeps the result in the map."""
     lines = []
     for _ in range(chance.randrange(1, 60)):
         key = f"{chance.randrange(KEYS):03d}".encode().hex()
@@ -31,7 +32,8 @@ def changes(chance, pairs):
 
 
 def our_turn(folder, chance, pairs):
-    """A script that writes, with pieces of work between, at times compacts, and works on for a while, perhaps not to the end."""
+    """Returns a script that writes, with pieces of work between, at times compacts, and works on
+    for a while, perhaps not to the end."""
     script = ["open any"]
     for line in changes(chance, pairs):
         script.append(line)
@@ -52,7 +54,8 @@ def their_turn(folder, chance, pairs):
 
 
 def want_both(folder, pairs, turn, whole):
-    """Both find what was written, and a check takes the directory; where it is wanted whole, its report is what LevelDB's own files say."""
+    """Checks that both find what was written, and that a check accepts the directory. If it must be
+    whole, the report must be what LevelDB's own files say."""
     layout, report = Layout(folder), prints("check", folder)
     if whole:
         want_lines(report, layout.report(), f"turn {turn}")

@@ -1,7 +1,8 @@
-"""Which functions the text of a source has, where their bodies stand, and what the prover calls them.
+"""Finds the functions of a source: where their bodies stand, and what the prover calls them.
 
-The sources are laid out by `rt fmt`, so a function ends at the first line with its own indentation and a brace, and its body begins
-behind the brace that ends its signature, or that stands alone behind its clauses. What is laid out otherwise has no function here.
+`rt fmt` lays the sources out, so a function ends at the first line with its own indentation and a
+brace. Its body begins after the brace that ends its signature, or that stands alone after its
+clauses. What is laid out otherwise has no function here.
 """
 import re
 from typing import NamedTuple
@@ -12,7 +13,8 @@ CALL = re.compile(r"\b(\w+)(?:::<[^()]*>)?\(")
 
 
 class Body(NamedTuple):
-    """A function of a source: its lines, counted from 0, from its head and from its first statement to its closing brace."""
+    """Holds a function of a source: the lines, counted from 0, of its head, its first statement and
+    its closing brace."""
 
     name: str
     block: str
@@ -23,7 +25,7 @@ class Body(NamedTuple):
 
 
 def without_parameters(text):
-    """The text without what stands between angle brackets."""
+    """Returns the text without what stands between angle brackets."""
     found, depth = [], 0
     for it in text.replace("->", "  "):
         depth += it == "<"
@@ -34,8 +36,9 @@ def without_parameters(text):
 
 
 def owner(line):
-    """The beginning of the name that the prover gives a block at the left edge, and whether the name has more to it: `Bytes` for `impl
-    Bytes`, and `BytesPartialEq` with more for `impl PartialEq for Bytes`. Nothing for a block of another kind."""
+    """Returns the start of the prover's name of a block at the left edge, and whether the name has
+    more to it. That is `Bytes` for `impl Bytes`, and `BytesPartialEq` with more for
+    `impl PartialEq for Bytes`. A block of another kind has none."""
     found = BLOCK.match(line)
     if not found or found[1] == "trait":
         return ""
@@ -47,8 +50,9 @@ def owner(line):
 
 
 def bodies(text):
-    """The functions of a source. (A function that the compiler may run, or one that is proved together with others, is none of them, nor
-    is one of a trait: more than its own proof may depend on its body.)"""
+    """Returns the functions of a source. It leaves out a function that the compiler may run, one
+    that is proved together with others, and one of a trait. More than its own proof may depend on
+    the body of such a function."""
     lines, found, block = text.split("\n"), [], ""
     for at, line in enumerate(lines):
         if line and line[0] not in " }/#":
@@ -67,13 +71,14 @@ def bodies(text):
 
 
 def module_of(path):
-    """The module of a source, as a beginning of names: `a::b::` for src/a/b.rt."""
+    """Returns the module of a source as a start of names: `a::b::` for src/a/b.rt."""
     inside = path.removeprefix("src/").removesuffix(".rt").removesuffix("/mod")
     return "" if inside in ("lib", "main", "mod") else inside.replace("/", "::") + "::"
 
 
 def named(body, path, crate, functions):
-    """The prover's name of a function, out of its names of all, or nothing where it can't be told."""
+    """Returns the prover's name of a function, out of the names of all, or nothing if that is
+    unclear."""
     front = f"{crate}::{module_of(path)}"
     if not body.block or body.block.endswith("::"):
         whole = f"{front}{body.block}{body.name}"

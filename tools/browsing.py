@@ -1,5 +1,5 @@
-"""The checks of tools/program that are about `get`, `scan`, `export` and `stats`, and about the forms of `dump`: what they print, and that they
-change nothing, whatever stands in the folder."""
+"""Checks of tools/program about `get`, `scan`, `export` and `stats`, and about the forms of `dump`:
+what they print, and that they change nothing, whatever stands in the folder."""
 import json
 import os
 import subprocess
@@ -12,13 +12,14 @@ from streams import at_hand, want_beginning, want_next
 
 REVERSE = ("--order", "reverse")
 
-# the pairs of a small database, by key: one without bytes, some that begin alike, some that are no text
+# the pairs of a small database, by key: one without bytes, some that begin alike, some not text
 PAIRS = {"": "76", "00": "", "61": "31", "6100": "3100", "6161": "-", "61ff": "33", "6b6579": "76616c7565", "7f20": "5c7e", "ff": "ff", "ffff": "00"}
 WORDS = {key or "-": "-" if value in ("", "-") else value for key, value in PAIRS.items()}
 
 
 def filled(room, name="folder", *options):
-    """A folder with these pairs, in tables and in a log, beside what was overwritten and deleted."""
+    """Makes a folder with these pairs, in tables and in a log, besides overwritten and deleted
+    ones."""
     folder = new_folder(room, name)
     keys = list(WORDS)
     script = ["open new", "put 6162 39", "put 61 39", *[f"put {key} {WORDS[key]}" for key in keys[::2]], "compact all", "del 6162", *[f"put {key} {WORDS[key]}" for key in keys[1::2]]]
@@ -27,7 +28,7 @@ def filled(room, name="folder", *options):
 
 
 def in_order(turned=False):
-    """The keys as the order has them; turned round, a prefix comes last."""
+    """Returns the keys in their order; in the reverse order a prefix comes last."""
     return sorted(WORDS, key=spelled, reverse=turned)
 
 
@@ -69,7 +70,7 @@ def turned(room):
 
 
 def ranged(turned, first, last, prefix):
-    """Those of the keys that a scan with these bounds has."""
+    """Returns those of the keys that a scan with these bounds has."""
 
     def is_before(key, other):
         return spelled(key) > spelled(other) if turned else spelled(key) < spelled(other)
@@ -110,7 +111,7 @@ def prefixes(room):
     want_printed(["scan", "--prefix", "", "--text", "--limit", "1", folder], 0, "")
 
 
-# the options of a scan, and the lines that it prints of the pairs `-` to 76, 00 to none and 61 to 31
+# the options of a scan, and the lines that it prints of the pairs `-` to 76, 00 to none, 61 to 31
 STYLES = [
     ("", ["-", "00", "61"]),
     ("--values", ["- 76", "00 -", "61 31"]),
@@ -157,7 +158,8 @@ def many(room):
 # ---- dump
 
 
-# entries of a table and of a log: keys and values of no bytes, with control characters, that are no UTF-8, and a delete
+# entries of a table and of a log: keys and values of no bytes, with control characters, not UTF-8,
+# and a delete
 ENTRIES = "open new; put - 76; put 0a1b 095b; put 225c 22; compact all; put c3a9 -; del 0a1b; put ff20 ff7f; put 6b6579 76616c7565"
 
 # the options of a dump, and the lines that it prints of them
@@ -199,7 +201,8 @@ def damaged_directory(room, name, first=ONE_TABLE, second=SECOND_TABLE, log=log_
     return write_directory(room, name, Manifest(log=7, next_file=8, last_sequence=2, tables=tables), {"000005.ldb": first, "000006.ldb": second, "000007.log": log})
 
 
-# what of such a directory is damaged, and what is said of it; behind it the entries of the others are printed
+# what of such a directory is damaged, and what is said of it; the entries of the others are printed
+# after that
 EACH_ENTRY = {"table 1 5": "table 1 5 61 1 put 31", "table 1 6": "table 1 6 62 2 put 32", "log 7": "log 7 63 3 put 33"}
 DAMAGES = [
     ({}, []),
@@ -288,7 +291,7 @@ def kept_going(room):
 
 
 def words_of_object(line):
-    """The line of words that says what this object does."""
+    """Returns the line of words that says what this object does."""
     found = json.loads(line)
     place = ["table", found.pop("level"), found.pop("number")] if found["file"] == "table" else ["log", found.pop("number")]
     change = ["put", found.pop("value") or "-"] if found["kind"] == "put" else ["delete"]
@@ -310,7 +313,8 @@ def dumped_objects(room):
 
 
 def described(folder, *options):
-    """What stats prints: the head's values, each level's files, bytes and whether a compaction is due, and each log's bytes."""
+    """Returns what stats prints: the head's values, each level's files, bytes and whether a
+    compaction is due, and each log's bytes."""
     ran = ldbtool("stats", *options, folder)
     want((ran.returncode, ran.stderr), (0, b""), f"stats of {os.path.basename(folder)}")
     words = [line.split() for line in ran.stdout.decode().splitlines()]
@@ -325,7 +329,8 @@ def lengths(folder, ending):
 
 
 def levels_by_check(folder):
-    """The same of each level, by the tables that a check names and the lengths of their files; due is level 0 with four files."""
+    """Returns the same of each level, by the tables that a check names and the lengths of their
+    files. Level 0 is due with four files."""
     found, sizes = {level: (0, 0, False) for level in range(7)}, lengths(folder, ".ldb")
     for line in ldbtool("check", folder).stdout.decode().splitlines():
         word, level, number, *_ = line.split() + ["", "", ""]
@@ -429,7 +434,7 @@ def words_over(words, folder):
 
 
 def seen(folder):
-    """Each file's bytes and times, and the folder's own."""
+    """Returns each file's bytes and times, and the folder's own."""
     times = [os.stat(folder).st_mtime_ns]
     return times, {name: (bytes_of(folder, name), os.stat(f"{folder}/{name}").st_mtime_ns, os.stat(f"{folder}/{name}").st_ino) for name in os.listdir(folder)}
 

@@ -1,8 +1,9 @@
-"""How the libraries of the repository are built side by side, each as soon as those below it stand.
+"""Builds the libraries of the repository side by side, each as soon as those below it stand.
 
-`rt` alone builds what is below a crate one after the other, and two of its runs in one checkout wait for each other where they
-share a library: so each is built in one of some copies below build/. A copy is lent the libraries that stand in this checkout, and
-gives back the one that it built, with the work that is kept of its proof. Nothing is proved twice.
+`rt` alone builds what is below a crate one by one, and two of its runs in one checkout wait for
+each other if they share a library. So each library is built in one of some copies below build/. A
+copy is lent the libraries of this checkout, and returns the one that it built, with the work that
+is kept of its proof. Nothing is proved twice.
 """
 import contextlib
 import fcntl
@@ -19,7 +20,7 @@ from repository import ROOT, RT, below, copied, is_program, lanes, lend, texts
 
 
 def libraries(named):
-    """The libraries among these crates and below them, lowest first."""
+    """Returns the libraries among these crates and below them, lowest first."""
     found = []
     for it in named:
         found += [other for other in [*below(it), it] if other not in found]
@@ -28,7 +29,8 @@ def libraries(named):
 
 @functools.cache
 def kit():
-    """The kit's own reckoning of what a library is made from; each crate's is made once, and not once for each way to it."""
+    """Returns what a library is made from, as the kit computes it, once for each crate and not once
+    for each way to it."""
     path = f"{os.path.dirname(os.path.realpath(RT))}/rtlib.py"
     made = importlib.util.module_from_spec(importlib.util.spec_from_file_location("rtlib", path))
     made.__spec__.loader.exec_module(made)
@@ -37,7 +39,8 @@ def kit():
 
 
 def stands(crate):
-    """Whether this checkout has the library of the text as it was when first asked. (Where a kit can't tell, rt itself will.)"""
+    """Says whether this checkout has the library of the text as it was when first asked. (If a kit
+    can't tell, rt itself will.)"""
     try:
         rtlib, known = kit()
         return rtlib.Crate(f"{ROOT}/crates/{crate}", ROOT, known).is_built()
@@ -47,7 +50,7 @@ def stands(crate):
 
 @functools.cache
 def sizes():
-    """How many bytes of text each crate has."""
+    """Returns how many bytes of text each crate has."""
     found = {}
     for path in texts():
         folder, _, rest = path.partition("/")
@@ -58,7 +61,7 @@ def sizes():
 
 
 def longest_first(named):
-    """The libraries, those with the longest chain of others above them in front."""
+    """Returns the libraries, those with the longest chain of others above them first."""
     behind = {}
     for it in reversed(named):
         behind[it] = sizes()[it] + max([0, *(behind[other] for other in behind if it in below(other))])
@@ -66,8 +69,9 @@ def longest_first(named):
 
 
 def started(crate, copy, jobs):
-    """`rt lib` in the crate's folder of a copy, over what stands and is kept here; its words go to a file. (With four jobs it takes half as
-    many seconds of processors again, so it has one where others run beside it.)"""
+    """Runs `rt lib` in the crate's folder of a copy, over what stands and is kept here; its words
+    go to a file. (Four jobs take half as many seconds of processors again, so it has one job if
+    others run beside it.)"""
     for it in below(crate):
         lend(it, copy)
     kept, to = f"{ROOT}/crates/{crate}/out/incremental", f"{copy}/crates/{crate}/out/incremental"
@@ -78,7 +82,8 @@ def started(crate, copy, jobs):
 
 
 def take(crate, copy, *parts):
-    """Takes parts of what a copy has made of a library, once no rt works in the crate's folder here."""
+    """Takes over parts of what a copy has made of a library, once no rt works in the crate's folder
+    here."""
     folder = f"{ROOT}/crates/{crate}"
     os.makedirs(f"{folder}/out", exist_ok=True)
     held = os.open(folder, os.O_RDONLY)
@@ -94,7 +99,7 @@ def take(crate, copy, *parts):
 
 @contextlib.contextmanager
 def ended(running):
-    """Ends the processes that are still there where it is left before their end."""
+    """Ends the processes that are still there if it is left before their end."""
     try:
         yield
     finally:
@@ -105,8 +110,8 @@ def ended(running):
 
 
 def build(named, at_once=None):
-    """Builds the libraries among these crates and below them, and answers whether all stand. Of each a line is printed as it is done:
-    its own seconds, and those since the beginning."""
+    """Builds the libraries among these crates and below them, and returns whether all stand. It
+    prints a line for each as it is done: its own seconds, and those since the start."""
     os.makedirs(f"{ROOT}/build/libraries", exist_ok=True)
     wanted = libraries(named)
     done = {it for it in wanted if stands(it)}
@@ -130,7 +135,7 @@ def build(named, at_once=None):
                 process, copy, since = running.pop(crate)
                 free.append(copy)
                 if process.returncode:
-                    # (what was proved of it is kept all the same)
+                    # (the finished part of its proof is kept all the same)
                     take(crate, copy, "incremental")
                     failed.append(crate)
                     print(f"libraries: {crate} isn't proved: build/libraries/{crate} says why", file=sys.stderr, flush=True)

@@ -1,7 +1,9 @@
-"""The checks of tools/program that are about completion: each shell is asked what it offers behind a beginning of a command line.
+"""Checks of tools/program about completion: each shell is asked what it offers after the start of a
+command line.
 
-bash is asked as it asks itself: by the function that is registered for `ldbtool`, over the words as it cuts them. zsh completes only
-where a person types, so that one is started at a terminal of its own, with the line and a tab.
+bash is asked as it asks itself: by the function that is registered for `ldbtool`, over the words as
+it cuts them. zsh completes only for a person who types, so it is started at its own terminal, with
+the line and a tab.
 """
 import os
 import pty
@@ -23,7 +25,8 @@ RUN = ["--work", "--strict", *SIZES, *COMMON]
 SCAN = ["--from", "--to", "--prefix", "--limit", "--reverse", "--values", "--text", "--json", *COMMON]
 FOLDERS = ["one", "some folder", "two"]
 
-# The words in front, the beginning of the next one, and what is offered for it. (The long one of two spellings is enough.)
+# The words before, the start of the next one, and what is offered for it. (The long one of two
+# spellings is enough.)
 OFFERED = [
     ([], "", [*VERBS, "help"]),
     ([], "r", ["run"]),
@@ -64,7 +67,8 @@ OFFERED = [
     (["dump", "--text", "one"], "--j", ["--json"]),
 ]
 
-# What bash is asked beside these: an '=' is a word to it; and behind DIR it offers nothing, where zsh offers what is left of the options.
+# What bash is asked besides: an '=' is a word to it. After DIR it offers nothing, and zsh the
+# options that are left.
 OFFERED_BY_BASH = [
     (["run", "--order="], "b", ["bytes"]),
     (["run"], "--order=", ["bytes", "reverse"]),
@@ -84,7 +88,8 @@ function=$(complete -p ldbtool | sed -n 's/^complete -F \([^ ]*\) ldbtool$/\1/p'
 printf '%s\n' "${COMPREPLY[@]}"
 """
 
-# Each set of words that a completion hands to the shell is written down, and a line behind the last of them.
+# Each set of words that a completion hands to the shell is written down, and a line after the last
+# of them.
 ZSH = r"""
 fpath=("$COMPLETION" $fpath)
 autoload -Uz compinit
@@ -108,7 +113,7 @@ PROMPT='ready> '
 
 
 def folders(room):
-    """A folder in which others stand, and a file."""
+    """Makes a folder in which others stand, and a file."""
     place = f"{room}/place"
     for name in FOLDERS:
         os.makedirs(f"{place}/{name}")
@@ -122,12 +127,13 @@ def want_offered(found, ahead, last, wanted, shell):
 
 
 def cut(words):
-    """The words as bash cuts them: an '=' parts two words, and is one itself."""
+    """Returns the words as bash cuts them: an '=' parts two words, and is one itself."""
     return [part for word in words for part in re.split("(=)", word) if part]
 
 
 class Typed:
-    """A zsh at a terminal of its own, into which lines are typed, each ended by a tab and then taken back."""
+    """Runs a zsh at its own terminal, into which lines are typed, each ended by a tab and then
+    deleted."""
 
     def __init__(self, room, place):
         self.answers = f"{room}/answers"
@@ -149,7 +155,7 @@ class Typed:
         self.wait(lambda seen: b"ready> " in seen)
 
     def offered(self, line):
-        """What is offered where this stands."""
+        """Returns what is offered after this."""
         with open(self.answers, "wb"):
             pass
         os.write(self.terminal, f"{line}\t".encode())
@@ -163,7 +169,7 @@ class Typed:
             return file.read()
 
     def wait(self, is_there):
-        """Reads what the shell prints until this is so."""
+        """Reads what the shell prints until this holds."""
         seen, end = b"", time.monotonic() + SECONDS
         while not is_there(seen):
             if time.monotonic() > end:
@@ -195,7 +201,8 @@ def by_zsh(room):
     with Typed(room, place) as shell:
         shell.ready()
         for ahead, last, wanted in [*OFFERED, *OFFERED_BY_ZSH]:
-            # (zsh shows an '=' with an option that takes a value, and quotes folders; the short spellings aren't asked for)
+            # (zsh shows an '=' with an option that takes a value, and quotes folders; the short
+            # spellings aren't asked for)
             found = [it.rstrip("=").replace("\\ ", " ") for it in shell.offered(" ".join(["ldbtool", *ahead, last]))]
             want_offered([it for it in found if it and not re.fullmatch("-[a-zA-Z]", it)], ahead, last, wanted, "zsh")
     return None

@@ -1,6 +1,8 @@
-"""The examples of the manual page, of the README and of the help: commands, each with what it prints.
+"""Reads the examples of the manual page, of the README and of the help: commands, each with what it
+prints.
 
-A command stands behind '$ ', with the lines of its here-document `<<end` where it has one; what it prints comes below.
+A command stands after '$ ', with the lines of its here-document `<<end` if it has one. What it
+prints comes below.
 """
 import re
 import textwrap
@@ -9,7 +11,7 @@ from repository import ROOT
 
 
 def read(lines):
-    """The pairs of a command and its output, in their order."""
+    """Returns the pairs of a command and its output, in their order."""
     found, wanted_end = [], False
     for line in lines:
         if wanted_end:
@@ -38,13 +40,13 @@ def examples_of_page():
 
 
 def examples_of_readme():
-    """Those of the blocks that begin with a command. The program is the one in build/."""
+    """Returns those of the blocks that begin with a command. The program is the one in build/."""
     text = text_of("README.md").replace("build/ldbtool", "ldbtool")
     blocks = re.findall(r"(?:^    .*\n)+", text, re.M)
     return [it for block in blocks if block.startswith("    $ ") for it in read(textwrap.dedent(block).splitlines())]
 
 
 def examples_of_help(told):
-    """Those behind the line `Examples:` or `Example:`."""
+    """Returns those after the line `Examples:` or `Example:`."""
     behind = re.split(r"^Examples?:\n", told, flags=re.M)[1]
     return read(textwrap.dedent(behind).rstrip("\n").splitlines())

@@ -1,9 +1,10 @@
-// Beneath a program, by LD_PRELOAD: the allocation of one number is refused, and all are counted. tools/allocations builds and
-// uses it.
+// Refuses the allocation of one number, beneath a program by LD_PRELOAD, and counts all.
+// tools/allocations builds and uses it.
 //
-//   REFUSED_NUMBER=N    the Nth allocation answers null, none where N is 0
-//   COUNTS_FILE=FILE   has two words of 64 bits: how many allocations there were, and how many of them were refused. It is
-//                           mapped, so that they stand there however the program ends.
+//   REFUSED_NUMBER=N     the Nth allocation returns null; 0 refuses none
+//   COUNTS_FILE=FILE     two words of 64 bits: how many allocations, and how many were refused
+//
+// COUNTS_FILE is mapped, so that the words stand there however the program ends.
 #include <errno.h>
 #include <fcntl.h>
 #include <stddef.h>
@@ -12,7 +13,7 @@
 #include <sys/mman.h>
 #include <unistd.h>
 
-// glibc's own, by names that nothing stands in front of
+// glibc's own, by names that nothing overrides
 extern void *__libc_malloc(size_t size);
 extern void *__libc_calloc(size_t count, size_t size);
 extern void *__libc_realloc(void *block, size_t size);

@@ -1,4 +1,5 @@
-"""Files of a LevelDB directory, made by hand from the format (docs/FORMATS.md), for the checks of tools/program."""
+"""Makes files of a LevelDB directory by hand from the format (docs/FORMATS.md), for the checks of
+tools/program."""
 import os
 import struct
 from dataclasses import dataclass, field
@@ -28,7 +29,7 @@ assert crc32c(b"123456789") == 0xE3069283
 
 
 def masked(text):
-    """The checksum as files store it."""
+    """Returns the checksum as files store it."""
     found = crc32c(text)
     return struct.pack("<I", ((found >> 15 | found << 17) + MASK) & 0xFFFFFFFF)
 
@@ -46,12 +47,12 @@ def string(text):
 
 
 def spelled(text):
-    """The bytes of a word of a script."""
+    """Returns the bytes of a word of a script."""
     return b"" if text == "-" else bytes.fromhex(text)
 
 
 def record(payload):
-    """A log record that fits one block, at the block's front or behind others in it."""
+    """Returns a log record that fits one block, at the block's start or after others in it."""
     return masked(b"\x01" + payload) + struct.pack("<HB", len(payload), 1) + payload
 
 
@@ -59,7 +60,8 @@ BLOCK = 32_768
 
 
 def log_of(payloads):
-    """A log of these records, of any length: each is cut into fragments where blocks end."""
+    """Returns a log of these records, of any length. Each is cut into fragments where blocks
+    end."""
     found = bytearray()
     for payload in payloads:
         kinds = iter(b"\x02" + b"\x03" * (len(payload) // (BLOCK - 7) + 1))
@@ -77,7 +79,8 @@ def log_of(payloads):
 
 
 def log_file(batches):
-    """A log of batches, each a sequence and a list of keys with their values, None for a delete."""
+    """Returns a log of batches, each a sequence and a list of keys with values, None for a
+    delete."""
     found = b""
     for sequence, operations in batches:
         batch = struct.pack("<QI", sequence, len(operations))
@@ -94,8 +97,8 @@ def internal_key(key, sequence):
 
 @dataclass
 class Manifest:
-    """A MANIFEST of one edit. A table is its level, number, size, and its least and greatest key, each with its sequence. The order of
-    keys has a name, or none."""
+    """Returns a MANIFEST of one edit. A table is its level, number, size, and its least and
+    greatest key, each with its sequence. The order of keys has a name, or none."""
 
     log: int
     next_file: int
@@ -121,7 +124,8 @@ def hexadecimal(text):
     return bytes.fromhex(text)
 
 
-# the table that has 61 = 31 at sequence 1 alone: a data block, a filter block, the metaindex, the index, and the footer
+# the table that has 61 = 31 at sequence 1 alone: a data block, a filter block, the metaindex, the
+# index, and the footer
 ONE_TABLE = (
     stored(hexadecimal("00 09 01 61 01 01 00 00 00 00 00 00 31 00 00 00 00 01 00 00 00"))
     + stored(hexadecimal("08 10 20 40 80 00 01 00 06 00 00 00 00 09 00 00 00 0b"))
@@ -133,14 +137,15 @@ assert len(ONE_TABLE) == 176
 
 
 def block(pairs):
-    """A block whose entries share nothing, each at a restart point."""
+    """Returns a block whose entries share nothing, each at a restart point."""
     entries = [varint(0) + varint(len(key)) + varint(len(value)) + key + value for key, value in pairs]
     places = [sum(map(len, entries[:count])) for count in range(len(entries))] or [0]
     return b"".join(entries) + struct.pack(f"<{len(places) + 1}I", *places, len(places))
 
 
 def table_file(entries):
-    """A table of one data block and without a filter. An entry is its key, sequence and value."""
+    """Returns a table of one data block without a filter. An entry is its key, sequence and
+    value."""
     data = stored(block([(internal_key(key, sequence), spelled(value)) for key, sequence, value in entries]))
     metaindex = stored(block([]))
     at_data, at_metaindex = (varint(at) + varint(len(it) - 5) for at, it in ((0, data), (len(data), metaindex)))
@@ -164,7 +169,8 @@ def bytes_of(folder, name):
 
 
 def write_directory(room, name, manifest, files):
-    """A new folder with these files, and with the MANIFEST and a CURRENT that names it, where one is given."""
+    """Makes a new folder with these files, and with the MANIFEST and a CURRENT that names it if one
+    is given."""
     folder = new_folder(room, name)
     if manifest:
         name_of_manifest = f"MANIFEST-{manifest.number:06}"
@@ -176,6 +182,7 @@ def write_directory(room, name, manifest, files):
 
 
 def with_table(room, name, table, **more):
-    """A new folder with a database of this one table, which has the bounds and the size of ONE_TABLE, and of these files."""
+    """Makes a new folder with a database of this one table, which has the bounds and the size of
+    ONE_TABLE, and of these files."""
     manifest = Manifest(log=3, next_file=6, last_sequence=1, tables=[(6, 5, len(ONE_TABLE), ("61", 1), ("61", 1))])
     return write_directory(room, name, manifest, {"000003.log": b"", "000005.ldb": table, **more})

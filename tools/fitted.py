@@ -1,5 +1,6 @@
-"""Damages of a table whose checksums are made to fit: blocks in each other's place, keys out of their block's place, and other keys at the ends
-of a table than its edit says. No checksum finds one, and none is a table that anybody wrote."""
+"""Damages of a table whose checksums are made to fit. Blocks stand in each other's place, keys out
+of their block's place, and a table's ends have other keys than its edit says. No checksum finds
+one, and nobody wrote such a table."""
 import struct
 from dataclasses import dataclass
 
@@ -11,7 +12,8 @@ TRAILER = 5
 
 @dataclass(frozen=True)
 class Entry:
-    """An entry of a block: its key, where the bytes of that stand which it doesn't share, and its value and where that stands."""
+    """Holds an entry of a block: its key and the place of the bytes that it doesn't share, its
+    value and that one's place."""
 
     key: bytes
     own: range
@@ -20,7 +22,7 @@ class Entry:
 
 
 def number_at(text, place):
-    """A number in bytes of seven bits, and where the rest begins."""
+    """Returns a number from bytes of seven bits, and where the rest begins."""
     found, shift = 0, 0
     while text[place] >= 128:
         found |= (text[place] & 127) << shift
@@ -29,14 +31,14 @@ def number_at(text, place):
 
 
 def handle_at(text, place):
-    """Where a block lies, and how long it is."""
+    """Returns where a block lies, and how long it is."""
     offset, place = number_at(text, place)
     length, _ = number_at(text, place)
     return offset, length
 
 
 def entries_of(text, handle):
-    """The entries of the block that lies there."""
+    """Returns the entries of the block that lies there."""
     offset, length = handle
     restarts = struct.unpack_from("<I", text, offset + length - 4)[0]
     place, end, key, found = offset, offset + length - 4 * (restarts + 1), b"", []
@@ -51,14 +53,15 @@ def entries_of(text, handle):
 
 
 def index_of(text):
-    """The handle of the index, and its entries: the last key of a block or one behind it, and the block's handle."""
+    """Returns the handle of the index, and its entries: the last key of a block or one after it,
+    and the block's handle."""
     _, behind = number_at(text, number_at(text, len(text) - FOOTER)[1])
     handle = handle_at(text, behind)
     return handle, entries_of(text, handle)
 
 
 def fitting(text, handle):
-    """The table with the checksum that the block there has to have."""
+    """Returns the table with the checksum that the block there must have."""
     offset, length = handle
     return replaced(text, offset + length + 1, masked(text[offset : offset + length + 1]))
 
@@ -68,13 +71,13 @@ def replaced(text, place, some):
 
 
 def pair_of(chance, found, size):
-    """Two of them that are of one size, if there are any."""
+    """Returns two of them that are of one size, if there are any."""
     pairs = [(a, b) for a in found for b in found if a != b and size(a) == size(b)]
     return chance.choice(pairs) if pairs else None
 
 
 def exchanged(chance, text):
-    """Two blocks stand in each other's place."""
+    """Exchanges two blocks."""
     pair = pair_of(chance, [handle_at(it.value, 0) for it in index_of(text)[1]], lambda it: it[1])
     if not pair:
         return text
@@ -84,20 +87,20 @@ def exchanged(chance, text):
 
 
 def doubled(chance, text):
-    """A block stands in another one's place, too."""
+    """Puts a block in another one's place, too."""
     pair = pair_of(chance, [handle_at(it.value, 0) for it in index_of(text)[1]], lambda it: it[1])
     return replaced(text, pair[1][0], text[pair[0][0] : sum(pair[0]) + TRAILER]) if pair else text
 
 
 def repointed(chance, text):
-    """The index leads to one block by the keys of another."""
+    """Makes the index lead to one block by the keys of another."""
     handle, index = index_of(text)
     pair = pair_of(chance, index, lambda it: len(it.value))
     return fitting(replaced(text, pair[1].place, pair[0].value), handle) if pair else text
 
 
 def misplaced(chance, text):
-    """A key of a block is no key, or isn't where it belongs."""
+    """Makes a key of a block no key, or one that doesn't belong there."""
     index = index_of(text)[1]
     for _ in range(100):
         at = chance.randrange(len(index))
@@ -111,7 +114,7 @@ def misplaced(chance, text):
 
 
 def ended(chance, text):
-    """The first key of a table, or its last, is another one, where it belongs by the index."""
+    """Changes the first or the last key of a table into one that fits the index."""
     index = index_of(text)[1]
     for _ in range(100):
         last = chance.choice((False, True))
@@ -126,7 +129,8 @@ def ended(chance, text):
 
 
 def is_in_place(text, handle, bound, last):
-    """Whether the keys of a block are internal keys that rise, behind the bound of the block in front and up to this one's own."""
+    """Says whether the keys of a block are internal keys that rise, above the previous block's
+    bound and up to this block's own."""
     keys = [*([bound] if bound is not None else []), *[it.key for it in entries_of(text, handle)]]
     if any(len(it) < 8 or it[-8] > 1 for it in keys):
         return False
@@ -135,7 +139,7 @@ def is_in_place(text, handle, bound, last):
 
 
 def rank(key):
-    """Internal keys in their order: by the user key, and the newest first."""
+    """Orders internal keys: by the user key, and the newest first."""
     return key[:-8], -int.from_bytes(key[-8:], "little")
 
 

@@ -1,6 +1,6 @@
-"""Checks of tools/program over folders that other hands change while a session goes on: a disk that is full, a folder that may not be
-written any more, files that are taken away. Every answer is one that a plain model may give or says that the files are damaged, and
-nothing is lost that was acknowledged."""
+"""Checks of tools/program over folders that change while a session goes on: a full disk, a folder
+that may not be written any more, files that are removed. Every answer is one that a plain model may
+give, or says that the files are damaged. Nothing is lost that was acknowledged."""
 import contextlib
 import os
 import shutil
@@ -28,7 +28,8 @@ UNCHANGED = ("get", "iter", "first", "next", "prev", "work", "compact", "open")
 
 
 def judged(typed, answers, folder):
-    """Each answer is one that the model allows, and the directory holds what it has. Where files were found damaged nothing was done."""
+    """Checks that each answer is one that the model allows, and that the directory holds what it
+    has. If files were found damaged, nothing was done."""
     told = [(line, answer) for line, answer in zip(typed, answers) if answer != CORRUPT or line.split()[0] not in UNCHANGED]
     states, fault = after_all(*(list(it) for it in zip(*told)))
     if fault:
@@ -55,7 +56,7 @@ def full_disk(room):
 
 
 class Typed:
-    """A session whose lines are typed one after the other."""
+    """Runs a session whose lines are typed one after the other."""
 
     def __init__(self, process):
         self.process = process
@@ -78,7 +79,8 @@ def typing(folder, program=None, **how):
 
 
 def without(room, folder, name, place):
-    """Runs the session, without this file from this line on to the next close; then it is put back, where none by its name was made."""
+    """Runs the session without this file from this line on to the next close. Then it puts the file
+    back, unless one of its name was made."""
     closed = SESSION.index("close", place) + 1
     with typing(folder) as session:
         session.give(SESSION[:place])
@@ -110,7 +112,8 @@ def taken_files(room):
 
 
 def as_a_user(room):
-    """How a program is run that has to keep to the rights of files, which root has not: the words and its path."""
+    """Returns how to run a program that must keep to the rights of files, as root need not: the
+    words and its path."""
     if os.geteuid():
         return under_test(), {}
     os.chmod(room, 0o755)

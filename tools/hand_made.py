@@ -20,11 +20,13 @@ def cut_logs(room):
         want_answers(cut, "open; get 61; put 62 32; close; open; get 61; get 62", f"ok; {found}; ok; ok; ok; {found}; value 32")
 
 
-# the edit of a new MANIFEST without a table: log 3, next file 6, last sequence 1; and that of ONE_TABLE as the table 5 of level 6
+# the edit of a new MANIFEST without a table (log 3, next file 6, last sequence 1), and that of
+# ONE_TABLE as the table 5 of level 6
 NUMBERS = hexadecimal("02 03 03 06 04 01")
 ADDED = hexadecimal("07 06 05 b0 01") + 2 * (b"\x09" + internal_key("61", 1))
 
-# the records of a MANIFEST, the file that is cut, its length, and from which length on the directory is consistent
+# the records of a MANIFEST, the file that is cut, its length, and the length from which on the
+# directory is consistent
 CUTS = [
     ([NUMBERS], "MANIFEST-000001", 13, 13),
     ([NUMBERS], "000003.log", 44, 0),

@@ -1,5 +1,5 @@
-"""Checks of tools/program over directories that were made to hurt: lengths, offsets and counts beyond all bounds. Whatever `check`, `dump`
-and `run` answer, they answer it within a second of a processor and 64 MB."""
+"""Checks of tools/program over hostile directories: lengths, offsets and counts beyond all bounds.
+Whatever `check`, `dump` and `run` answer, they answer it within a processor second and 64 MB."""
 import os
 import signal
 import struct
@@ -21,13 +21,14 @@ CORRUPT = "refused 5 Corrupt"
 
 
 def with_footer(metaindex, index):
-    """The one-entry table with these two handles in its footer: of each the offset and the length."""
+    """Returns the one-entry table with these two handles in its footer, each an offset and a
+    length."""
     handles = b"".join(map(varint, (*metaindex, *index)))
     return ONE_TABLE[:128] + handles + bytes(40 - len(handles)) + ONE_TABLE[-8:]
 
 
 def with_index(offset, length):
-    """The one-entry table, whose index names a data block there."""
+    """Returns the one-entry table, whose index names a data block there."""
     handle = varint(offset) + varint(length)
     entry = varint(0) + varint(9) + varint(len(handle)) + internal_key("61", 1) + handle
     index = entry + struct.pack("<II", 0, 1)
@@ -53,13 +54,14 @@ TABLES = {f"{name} at {offset}, {length} bytes": table(offset, length) for offse
 
 
 def directory(manifest=None, log=b"", **files):
-    """The files of a database whose MANIFEST has these bytes, or says log 3, next file 6, last sequence 1 and no table."""
+    """Returns the files of a database whose MANIFEST has these bytes, or says log 3, next file 6,
+    last sequence 1 and no table."""
     return {"CURRENT": b"MANIFEST-000001\n", "MANIFEST-000001": record(hexadecimal("02 03 03 06 04 01")) if manifest is None else manifest,
             "000003.log": log, **files}  # fmt: skip
 
 
 def with_one_table(table, said=None):
-    """The table 5 of level 6, of which the MANIFEST says such a length."""
+    """Returns the table 5 of level 6, for which the MANIFEST says this length."""
     manifest = Manifest(log=3, next_file=6, last_sequence=1, tables=[(6, 5, len(table) if said is None else said, ("61", 1), ("61", 1))])
     return directory(manifest.file(), **{"000005.ldb": table})
 
@@ -78,19 +80,19 @@ MANY = 100_000
 
 
 def listed(number):
-    """A table of this number in level 6, of one key, which rises with the number."""
+    """Returns a table of this number in level 6, with one key, which rises with the number."""
     key = internal_key(f"{number:08x}", 1)
     return b"\x07\x06" + varint(number) + varint(len(ONE_TABLE)) + 2 * string(key)
 
 
 def many_tables(tables_in_edits):
-    """A MANIFEST that lists tables whose files aren't there."""
+    """Returns a MANIFEST that lists tables whose files aren't there."""
     return directory(log_of([hexadecimal("02 03") + b"\x03" + varint(MANY + 6) + b"\x04\x01", *tables_in_edits]))
 
 
 NUMBERS = range(5, MANY + 5)
 
-# files, what a check prints first, and what an open is answered, which looks into no table
+# files, what a check prints first, and the answer to an open, which reads no table
 DIRECTORIES = {
     **{f"a table with its {name}": (with_one_table(table), CORRUPT, "ok") for name, table in TABLES.items()},
     **{f"a table of which the MANIFEST says {said} bytes": (with_one_table(ONE_TABLE, said), CORRUPT, CORRUPT) for said in FAR[1:]},
@@ -119,7 +121,8 @@ GIGABYTE = 2**30
 WHOLE_BLOCK = record(BATCH + b"\x01\x01a" + varint(32_743) + bytes(32_743))
 assert len(WHOLE_BLOCK) == 32_768
 
-# The files, and the one behind whose bytes stand zeros up to a gigabyte. They are refused, and none of them is read whole.
+# The files, and the one whose bytes are followed by zeros up to a gigabyte. They are refused, and
+# none of them is read whole.
 ENDLESS = {
     "a log of a gigabyte of zeros": (directory(), "000003.log"),
     "a log of one batch and a gigabyte of zeros": (logged(BATCH + b"\x01\x01a\x011"), "000003.log"),
@@ -132,7 +135,8 @@ ENDLESS = {
 # ---- what is measured
 
 
-# A process counts as its own what its maker held when it was made, so that a small one in between makes the program and tells what it took.
+# A process counts as its own the memory that its parent had when it forked. So a small process in
+# between starts the program and reports what it took.
 MEASURE = """
 import os, sys
 silent = [(os.POSIX_SPAWN_OPEN, 2, os.devnull, os.O_WRONLY, 0)]
@@ -142,7 +146,8 @@ print(os.waitstatus_to_exitcode(status), usage.ru_utime + usage.ru_stime, usage.
 
 
 def measured(words, script):
-    """What a run printed, its status, and the seconds of a processor and the megabytes that it took."""
+    """Returns what a run printed, its status, and the processor seconds and megabytes that it
+    took."""
     command = [sys.executable, "-S", "-E", "-c", MEASURE, under_test(), *words]
     with subprocess.Popen(command, stdin=subprocess.PIPE, stdout=subprocess.PIPE, stderr=subprocess.PIPE, start_new_session=True) as process:
         killer = threading.Timer(SECONDS, os.killpg, (process.pid, signal.SIGKILL))
@@ -157,7 +162,8 @@ OPENED = ["open any", "get 61", "iter", "first 1", "put 61 32", "compact all", "
 
 
 def want_within_bounds(folder, name, report, opened):
-    """A check prints this first, an open is answered so, and a dump says no more than a check; all within the bounds."""
+    """Checks what a check prints first and an open is answered, and that a dump says no more than a
+    check; all within the bounds."""
     for verb, script, status, first in (("check", [], int(report != "good"), report), ("dump", [], int(report != "good"), None), ("run", OPENED, 0, opened)):
         printed, found, seconds, megabytes = measured([verb, folder], "".join(f"{line}\n" for line in script).encode())
         what = f"{verb} of {name}"

@@ -1,5 +1,5 @@
-"""The checks of tools/program that are about `import`, `compact`, and `run` with `--strict` and `--work`: what is taken, what is told, and
-what is left in the folder."""
+"""Checks of tools/program about `import`, `compact`, and `run` with `--strict` and `--work`: what
+is accepted, what is said, and what is left in the folder."""
 import os
 import pty
 import re
@@ -217,7 +217,7 @@ def compacts_deleted(room):
 # ---- scripts
 
 
-# a script, and what --strict answers of it, with its status
+# a script, and what --strict answers to it, with its status
 STRICT = [
     ("", "", 0),
     ("open new; put 61 31; get 61", "ok; ok; value 31", 0),
@@ -237,7 +237,7 @@ def strict(room):
         given, wanted = ([it.strip() for it in text.split(";")] if text else [] for text in (script, answers))
         want_printed(["run", "--strict", folder], status, *wanted, script=lines(*given))
         if "put 61" in script and "NoDatabase" not in answers:
-            # it is closed, and what was written in front of the refusal is there
+            # it is closed, and what was written before the refusal is there
             want_answers(folder, "open; get 61; get 62", "ok; value 31; none")
         loose = new_folder(room, f"loose {number}")
         want(ldbtool("run", loose, script=lines(*given)).returncode, 0, "without it")
@@ -268,7 +268,8 @@ IMPORT_HINT = b"ldbtool: lines are `put K V` and `del K`; keys and values are he
 
 
 def at_terminal(words, typed, **how):
-    """Runs a command at a terminal of its own, types this into it, and answers what is seen there, and the status."""
+    """Runs a command at its own terminal, types this into it, and returns what is seen there, and
+    the status."""
     ours, theirs = pty.openpty()
     streams = {"stdin": theirs, "stdout": theirs, "stderr": theirs, **how}
     seen, end = b"", time.monotonic() + SECONDS

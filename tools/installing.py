@@ -1,4 +1,4 @@
-"""The checks of tools/program that are about installing: by make, and as a Debian package."""
+"""Checks of tools/program about installing: by make, and as a Debian package."""
 import gzip
 import os
 import re
@@ -36,7 +36,7 @@ PLAIN = {
 
 
 def made(*words):
-    """What a target of the Makefile prints, line by line; its status is 0."""
+    """Returns what a target of the Makefile prints, line by line; its status must be 0."""
     ran = subprocess.run(["make", "--no-print-directory", *words], cwd=ROOT, capture_output=True, text=True, timeout=SECONDS)
     if ran.returncode:
         raise Wrong(f"make {' '.join(words)}: {ran.stderr[-2000:]}")
@@ -48,7 +48,7 @@ def files_below(folder):
 
 
 def want_runs(program, folder):
-    """It answers without anything of the environment."""
+    """Checks that it answers without anything of the environment."""
     ran = subprocess.run(["env", "-i", program, "run", folder], input=b"open new\nput 61 31\nget 61", capture_output=True, timeout=SECONDS)
     want_ran(ran, 0, lines("ok", "ok", "value 31"), "the installed program")
 
@@ -75,7 +75,7 @@ def installed(room):
 
 
 def packed(room, name):
-    """A package made of the program, its file, and what is in it."""
+    """Makes a package of the program, and returns its file and what is in it."""
     file = made("deb", f"LDBTOOL={under_test()}", f"DEB={room}/{name}")[-1]
     want(bool(re.fullmatch(r"ldbtool_\d+\.\d+\.\d+-\d+_\w+\.deb", os.path.basename(file))), True, f"the name {file}")
     subprocess.run(["dpkg-deb", "-R", file, f"{room}/{name}/tree"], check=True, timeout=SECONDS)

@@ -1,5 +1,5 @@
-"""What tools/refusals and tools/program ask of a directory in which something was refused: that a check takes it, and that it holds what
-the plain model has."""
+"""What tools/refusals and tools/program ask of a directory in which something was refused. A check
+must accept it, and it must hold what the plain model has."""
 import subprocess
 
 from listed import Wrong
@@ -8,13 +8,13 @@ from running import SECONDS, lines, under_test
 
 
 def ran(*words, script=()):
-    """The status of the program, and the lines that it printed."""
+    """Returns the status of the program, and the lines that it printed."""
     done = subprocess.run([under_test(), *words], input=lines(*script), capture_output=True, timeout=SECONDS)
     return done.returncode, done.stdout.decode().splitlines()
 
 
 def held(folder, count):
-    """What a walk over the directory finds."""
+    """Returns what an iteration over the directory finds."""
     status, answers = ran("run", folder, script=["open any", "iter", "first 1", *["next 1"] * count])
     if status or answers[:2] != ["ok", "iter 1"] or "end" not in answers:
         raise Wrong(f"a walk answers {answers[-3:]}, status {status}")
@@ -22,7 +22,8 @@ def held(folder, count):
 
 
 def want_held(folder, states):
-    """The directory is whole, and holds what one of the states has, with the batch in doubt or without."""
+    """Checks that the directory is whole, and holds what one of the states has, with the in-doubt
+    batch or without."""
     status, report = ran("check", folder)
     if status or report[:1] not in (["good"], ["empty"]):
         raise Wrong(f"a check answers {report[:2]}, status {status}")

@@ -1,4 +1,5 @@
-"""Named checks: a list of them, and how a tool runs those that are asked for. Those of tools/, and those beside LevelDB (interop/)."""
+"""Named checks, of tools/ and of interop/: a list of them, and how a tool runs those that are asked
+for."""
 import argparse
 import tempfile
 import time
@@ -8,11 +9,12 @@ CHECKS = []
 
 
 class Wrong(Exception):
-    """What a check found in place of what it wants."""
+    """Says what a check found instead of what it wants."""
 
 
 def check(name):
-    """Puts a function into the list. It is given an empty folder, and may answer what is worth saying of it."""
+    """Puts a function into the list. It is given an empty folder, and may return a note to
+    print."""
 
     def keep(function):
         CHECKS.append((name, function))
@@ -34,7 +36,7 @@ def chosen(checks, word):
 
 
 def holds(tool, name, function):
-    """Runs one check in a folder of its own, says what became of it, and answers whether it holds."""
+    """Runs one check in its own folder, says how it ended, and returns whether it holds."""
     begun = time.monotonic()
     with tempfile.TemporaryDirectory(prefix=f"{tool}-") as room:
         try:
@@ -49,7 +51,7 @@ def holds(tool, name, function):
 
 
 def outcomes_of(tool, checks, at_once=1):
-    """Runs checks, so many side by side, and answers of each whether it holds."""
+    """Runs checks, so many side by side, and returns whether each holds."""
     if at_once == 1:
         return [holds(tool, *it) for it in checks]
     with ThreadPoolExecutor(at_once) as pool:
@@ -57,7 +59,8 @@ def outcomes_of(tool, checks, at_once=1):
 
 
 def run_checks(tool, given, checks, at_once=1):
-    """Runs the checks that are asked for, or prints their names, and answers the status of the command."""
+    """Runs the checks that are asked for, or prints their names, and returns the command's
+    status."""
     wanted = chosen(checks, given.only)
     if given.list:
         print(*[name for name, _ in wanted], sep="\n")
@@ -68,7 +71,7 @@ def run_checks(tool, given, checks, at_once=1):
 
 
 def summed(outcomes):
-    """Prints the last line, and answers the status of the command."""
+    """Prints the last line, and returns the command's status."""
     print(f"{outcomes.count(True)} passed, {outcomes.count(False)} failed")
     return 0 if all(outcomes) else 1
 

@@ -1,5 +1,5 @@
-"""A plain model of ldbtool's sessions: which answers the commands of a script may have, refusals of memory and of the device among
-them, and what the directory holds then."""
+"""A plain model of ldbtool's sessions: the answers that commands of a script may have, refusals of
+memory and of the device among them, and what the directory holds then."""
 import copy
 
 
@@ -12,7 +12,8 @@ def text_of(a_word):
 
 
 class View:
-    """What a snapshot or an iterator sees, in the order of bytes or that turned round, and at which of its pairs that stands."""
+    """Holds what a snapshot or an iterator sees, in the order of bytes or its reverse, and the pair
+    at which it stands."""
 
     def __init__(self, pairs, turned=False):
         self.pairs = pairs
@@ -34,7 +35,7 @@ class View:
         return "refused 10 NoPlace" if self.place is None else self.stand(self.place + by)
 
     def move(self, verb, key):
-        """The answer of a move, which was made."""
+        """Returns the answer of a move, which was made."""
         moves = {
             "first": lambda: self.stand(0),
             "last": lambda: self.stand(len(self.keys) - 1),
@@ -51,8 +52,8 @@ MOVES = ("first", "last", "seek", "next", "prev")
 
 
 class Machine:
-    """One state that a session may be in. `doubt` is what the directory holds if the batch counts that the device refused;
-    `turned` says that keys are in the order of bytes turned round."""
+    """Holds one state that a session may be in. `doubt` is what the directory holds if the in-doubt
+    batch counts; `turned` says that keys are in the reverse order of bytes."""
 
     def __init__(self, turned=False):
         self.turned = turned
@@ -68,7 +69,8 @@ class Machine:
         return other
 
     def after(self, line, answer):
-        """The states in which a session may be behind the command, where it was answered so: none where it may not be."""
+        """Returns the states in which a session may be after the command if it was answered so:
+        none if it may not be answered so."""
         verb, *words = line.split(" ")
         if verb == "open":
             return self.after_open(words[0] if words else "old", answer)
@@ -85,7 +87,7 @@ class Machine:
         if self.is_open:
             return [self] if answer == (BROKEN if self.is_broken else "refused 17 AlreadyOpen") else []
         if answer in (MEMORY, DEVICE):
-            # (it may have come as far as CURRENT)
+            # (it may have got as far as CURRENT)
             return [self, self.changed(is_made=True)]
         if self.is_made and mode == "new":
             return [self] if answer == "refused 4 Exists" else []
@@ -111,7 +113,7 @@ class Machine:
         return [self, self.changed(is_broken=True)] if answer == DEVICE else []
 
     def written(self, verb, words):
-        """What the directory holds behind a write."""
+        """Returns what the directory holds after a write."""
         pairs, rest = dict(self.pairs), [verb, *words] if verb != "write" else [it for it in words if it != "sync"]
         while rest:
             if rest[0] == "put":
@@ -161,8 +163,8 @@ class Machine:
 
 
 def after_all(lines, answers, states=None):
-    """The states in which a session may be behind these answers, and the first line whose answer none allows, if there is one.
-    It begins in one of these states, or in a folder where nothing is."""
+    """Returns the states in which a session may be after these answers, and the first line whose
+    answer none allows, if there is one. It begins in one of these states, or in an empty folder."""
     states = states or [Machine()]
     for line, answer in zip(lines, answers):
         states = [new for old in states for new in old.after(line, answer)]

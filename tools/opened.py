@@ -1,5 +1,5 @@
-"""Opens folders that are made of names and bytes, by ldbtool and, where it is there, by LevelDB behind its command line
-(interop/leveldb_driver.cc), and says what is in them."""
+"""Opens folders that are made of names and bytes, and says what is in them. It uses ldbtool and, if
+it is there, LevelDB behind its command line (interop/leveldb_driver.cc)."""
 import shutil
 import subprocess
 import tempfile
@@ -21,7 +21,7 @@ def written(folder, files):
 
 
 class LevelDB:
-    """LevelDB, which is given one folder after the other. It writes into what it opens."""
+    """Runs LevelDB over one folder after the other. It writes into what it opens."""
 
     def __init__(self, program):
         self.process = subprocess.Popen([program, "maps"], stdin=subprocess.PIPE, stdout=subprocess.PIPE, text=True)
@@ -46,7 +46,7 @@ class LevelDB:
 
 
 def found_by_ldbtool(folder):
-    """What a check says, and what is there once the folder was opened, which writes into it."""
+    """Returns what a check says, and what is there after an open, which writes into the folder."""
     status, report = ran("check", folder)
     if status or report[:1] not in (["good"], ["empty"]):
         return Found(f"a check answers {report[:2]}, status {status}")
@@ -73,7 +73,7 @@ class Opener:
             self.leveldb.end()
 
     def found(self, files):
-        """What is there by ldbtool, which is what is there by LevelDB."""
+        """Returns what ldbtool finds, which must be what LevelDB finds."""
         key = hash(frozenset(files.items()))
         if key not in self.known:
             self.known[key] = self.opened(files)

@@ -1,4 +1,5 @@
-"""Checks of tools/program under the order of bytes turned round, and of what a directory of one order says under the other."""
+"""Checks of tools/program under the reverse order of bytes, and of what a directory of one order
+says under the other."""
 import os
 
 from files import Manifest, bytes_of, log_file, new_folder, write_directory
@@ -21,7 +22,7 @@ OF_BOTH = ("refused 20 BadLine", "refused 19 BadLevel")
 def first_files(room):
     folder = new_folder(room)
     want_answers(folder, "open new; close", "ok; ok", *REVERSE)
-    # a record of 41 bytes behind its checksum, and in it the name, of 33
+    # a record of 41 bytes after its checksum, and in it the name, of 33
     manifest = bytes_of(folder, "MANIFEST-000001")
     edit = bytes.fromhex("0121") + b"ldbtool.ReverseBytewiseComparator" + bytes.fromhex("020203030400")
     want((len(manifest), manifest[4:7].hex(), manifest[7:]), (48, "290001", edit), "the MANIFEST")
@@ -85,12 +86,12 @@ def turned_table(room):
 
 
 def held(states):
-    """The pairs that a directory may have, as its dump's newest entries make them."""
+    """Returns the pairs that a directory may have, as its dump's newest entries make them."""
     return [{word(key): word(value) for key, value in state.pairs.items()} for state in states]
 
 
 def newest(folder):
-    """The pairs that the newest entries of a dump make."""
+    """Returns the pairs that the newest entries of a dump make."""
     found = {}
     for line in ldbtool("dump", *REVERSE, folder).stdout.decode().splitlines():
         words = line.split()
@@ -102,7 +103,8 @@ def newest(folder):
 
 
 def run_turned(folder, options, script, answers, states):
-    """Runs a script whose answers under the order of bytes are known, and compares it with the model; answers its states."""
+    """Runs a script whose answers under the order of bytes are known, compares it with the model,
+    and returns its states."""
     commands, known = [[it.strip() for it in text.split(";")] for text in (script, answers)]
     ran = ldbtool("run", *REVERSE, *options.split(), folder, script=lines(*commands))
     found = ran.stdout.decode().splitlines()
@@ -119,7 +121,7 @@ def run_turned(folder, options, script, answers, states):
 
 
 def want_turned(folder, options, parts):
-    """Scripts over one folder, each with its answers under the order of bytes."""
+    """Runs scripts over one folder, each with its answers under the order of bytes."""
     states = [Machine(turned=True)]
     for script, answers in parts:
         states = run_turned(folder, options, script, answers, states)

@@ -1,9 +1,11 @@
-"""Which crates of tests a gate has proved and run, as bugs/passed.txt records it, and over which text.
+"""Which crates of tests a gate has proved and run, as bugs/passed.txt records it, and over which
+text.
 
-The sum covers all that such a crate is made of: its sources, definitions and proofs, those of every crate below, bodies too, the lines of
-all these in crates.txt, and the kit. Comments of sources and definitions are left out, as in refused.py. So where anything has changed
-that a test could tell or that its proof rests on, tools/gate proves it and runs it natively; where nothing has, it tries it by `rt try`,
-which compiles it with checks at run time.
+The sum covers all that such a crate is made of: its sources, definitions and proofs, those of every
+crate below, bodies too, the lines of all these in crates.txt, and the kit. It leaves out comments
+of sources and definitions, as in refused.py. If anything has changed that a test could tell or that
+its proof rests on, tools/gate proves the crate and runs it natively. Otherwise it tries it by
+`rt try`, which compiles it with checks at run time.
 """
 import hashlib
 
@@ -23,7 +25,7 @@ def crates_of_tests(root=ROOT):
 
 
 def sum_of(crate, root=ROOT):
-    """The sum of all that a crate of tests is made of."""
+    """Returns the sum of all that a crate of tests is made of."""
     made_of = [*below(crate, root), crate]
     texts = [(it, part, sorted(read(root, it, part).items())) for it in made_of for part in ("src", "specs", "proofs")]
     lines = [(it, sorted(crates(root)[it])) for it in made_of]

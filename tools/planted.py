@@ -1,9 +1,10 @@
-"""Bugs planted into a recording, for tools/stops to find: each makes of a program's calls those of a program that has it."""
+"""Plants bugs into a recording, for tools/stops to find. Each turns a program's calls into those of
+a program with that bug."""
 from recorded import Answered, Moved, Opened, Removed, Synced, Wrote
 
 
 def unsynced(*endings):
-    """Files with such names are never synced."""
+    """Never syncs files with such names."""
 
     def plant(calls, folder):
         files = {it.file for it in calls if isinstance(it, Opened) and is_named(it.name, endings)}
@@ -17,7 +18,7 @@ def is_named(name, words):
 
 
 def sealed_unsynced(calls, _):
-    """No log is synced once there is one behind it."""
+    """Syncs no log once there is a later one."""
     names, found = {}, []
     for it in calls:
         if isinstance(it, Opened) and it.name.endswith(".log"):
@@ -28,12 +29,13 @@ def sealed_unsynced(calls, _):
 
 
 def folder_unsynced(calls, folder):
-    """The folder is never synced."""
+    """Never syncs the folder."""
     return [it for it in calls if not (isinstance(it, Synced) and it.file == folder)]
 
 
 def renaming_unsynced(calls, folder):
-    """The folder isn't synced behind the renaming of CURRENT, until another file's sync asks for it."""
+    """Doesn't sync the folder after the renaming of CURRENT, until another file's sync asks for
+    it."""
     found, is_behind = [], False
     for it in calls:
         is_behind = isinstance(it, Moved) and it.new == "CURRENT" or is_behind and not isinstance(it, Opened)
@@ -43,7 +45,7 @@ def renaming_unsynced(calls, folder):
 
 
 def current_removed(calls, _):
-    """CURRENT is taken away before its new file is renamed to it."""
+    """Removes CURRENT before its new file is renamed to it."""
     found, is_there = [], False
     for it in calls:
         if isinstance(it, Moved) and it.new == "CURRENT":
@@ -54,7 +56,7 @@ def current_removed(calls, _):
 
 
 def removed_early(*endings):
-    """What an open removes of such files goes before CURRENT is renamed."""
+    """Moves an open's removals of such files before the renaming of CURRENT."""
 
     def plant(calls, _):
         found = list(calls)
@@ -69,7 +71,7 @@ def removed_early(*endings):
 
 
 def logs_removed(calls, _):
-    """The logs that an open finds are removed before CURRENT is renamed."""
+    """Removes the logs that an open finds before CURRENT is renamed."""
     found, logs = [], []
     for it in calls:
         if isinstance(it, Moved) and it.new == "CURRENT":
@@ -82,7 +84,7 @@ def logs_removed(calls, _):
 
 
 def log_rewritten(calls, _):
-    """A write empties its log, and writes all of it once more."""
+    """Has a write empty its log, and write all of it once more."""
     names, held, found = {}, {}, []
     for it in calls:
         if isinstance(it, Opened):
@@ -97,7 +99,8 @@ def log_rewritten(calls, _):
 
 
 def edit_first(calls, _):
-    """A MANIFEST tells of a table before that is written: each table's calls come behind the next write to a MANIFEST."""
+    """Has a MANIFEST tell of a table before the table is written: each table's calls come after the
+    next write to a MANIFEST."""
     files = {it.file: it.name for it in calls if isinstance(it, Opened)}
     found, late = [], []
     for it in calls:
@@ -113,7 +116,7 @@ def edit_first(calls, _):
 
 
 def log_removed_early(calls, _):
-    """A log is removed before the edit behind which nobody needs it."""
+    """Removes a log before the edit that makes it obsolete."""
     manifests = {it.file for it in calls if isinstance(it, Opened) and it.name.startswith("MANIFEST-")}
     found, edit = [], 0
     for it in calls:

@@ -1,5 +1,6 @@
-"""What is promised of a folder that a session of ldbtool leaves: which batches it holds, where the program is stopped and where the device
-loses power. A session is known by its recording (recorded.py), what is left of it by remains.py."""
+"""What is promised of a folder that a session of ldbtool leaves: which batches it holds after a
+crash and after a power loss. A session is known by its recording (recorded.py), what is left of it
+by remains.py."""
 import bisect
 import math
 import operator
@@ -11,14 +12,14 @@ from recorded import Answered, Locked, Moved, Opened, Removed, Wrote
 
 WRITES = ("put", "del", "write")
 
-# what is made to have the lock
+# the file that is made to take the lock
 LOCKS = ("LOCK", "LOCK-wal")
 
 
 @dataclass(frozen=True)
 class Found:
-    """What a reader finds in a folder: nothing, where it refuses it, or its pairs; and what a check says of the last sequence and of the
-    numbers of live logs, where the reader has one."""
+    """Holds what a reader finds in a folder: its pairs, or nothing if it refuses it. If the reader
+    has a check, it also holds the last sequence and the numbers of logs in use."""
 
     refusal: str = ""
     pairs: dict = None
@@ -28,7 +29,8 @@ class Found:
 
 @dataclass(frozen=True)
 class Batch:
-    """A batch that was accepted: by which line, which the folder then holds, and the log with its place there."""
+    """Holds a batch that succeeded: its line, what the folder then holds, and the log with the
+    batch's place there."""
 
     line: int
     text: str
@@ -40,13 +42,13 @@ class Batch:
 
 
 def operations_in(line):
-    """How many operations a line writes, which take so many sequences."""
+    """Counts the operations that a line writes, which take as many sequences."""
     words = line.split(" ")
     return 1 if words[0] != "write" else words.count("put") + words.count("del")
 
 
 def keys_in(line):
-    """The keys that a line writes."""
+    """Returns the keys that a line writes."""
     words = line.split(" ")
     return [text_of(words[place + 1]) for place, it in enumerate(words) if it in ("put", "del")]
 
@@ -56,7 +58,7 @@ def is_synced(line):
 
 
 def applied(pairs, line):
-    """The pairs behind a line that writes."""
+    """Returns the pairs after a line that writes."""
     machine = Machine()
     machine.pairs = pairs
     verb, *words = line.split(" ")
@@ -64,13 +66,15 @@ def applied(pairs, line):
 
 
 class InDoubt(Exception):
-    """A batch was refused that the folder may hold: what is to be left isn't known from the answers."""
+    """Says that a batch was refused that the folder may hold: the answers don't tell what should be
+    left."""
 
 
 class Story:
-    """The batches of a session, and how many of them were accepted at each moment. It begins over a folder that holds these pairs, up
-    to this sequence. Where commands may be refused, those that were count for nothing. Where opens keep what they find, the device has
-    that behind one that was accepted."""
+    """Holds the batches of a session, and how many of them had succeeded at each moment. The
+    session begins over a folder with these pairs, up to this sequence. If commands may be refused,
+    refused ones count for nothing. If opens keep what they find, that is durable after one that
+    succeeds."""
 
     def __init__(self, recording, history, pairs=None, sequence=0, may_refuse=False, opens_keep=False):
         self.history, self.script = history, recording.script
@@ -86,7 +90,7 @@ class Story:
         for number, (line, answer) in enumerate(zip(self.script, recording.answers)):
             if line.split(" ")[0] in WRITES and answer == "ok":
                 self.batches.append(self.batch(number, line))
-        # the lines behind which the device has all batches so far
+        # the lines after which all batches so far are durable
         answered = enumerate(zip(self.script, recording.answers))
         self.keeping = [number for number, (line, answer) in answered if answer == "ok" and (is_synced(line) or opens_keep and line.startswith("open"))]
 
@@ -96,11 +100,12 @@ class Story:
         return Batch(number, line, applied(pairs, line), sequence + operations_in(line), log, name, end)
 
     def calls_of(self, line):
-        """The places of the calls that a line made."""
+        """Returns the places of the calls that a line made."""
         return range(bisect.bisect_left(self.answered, line), bisect.bisect_left(self.answered, line + 1))
 
     def place(self, line):
-        """Where a line's batch lies: the log, its number, and where it ends there; none, where the batch is empty."""
+        """Returns where a line's batch lies: the log, its number, and its end there. An empty batch
+        has no place."""
         for at in reversed(self.calls_of(line)):
             log, now = self.history.written.get(at), self.history.moments[at + 1]
             name = next((name for name, it in now.names.items() if it is log and name.endswith(".log")), None)
@@ -109,11 +114,12 @@ class Story:
         return None, math.inf, 0
 
     def state(self, count):
-        """The pairs and the last sequence behind so many batches."""
+        """Returns the pairs and the last sequence after so many batches."""
         return (self.batches[count - 1].pairs, self.batches[count - 1].sequence) if count else (self.pairs, self.sequence)
 
     def accepted(self, moment):
-        """How many batches were answered by then, how many of them the device has, and whether another was under way."""
+        """Returns how many batches were answered by then, how many of them are durable, and whether
+        another was under way."""
         lines, written = self.answered[moment], [it.line for it in self.batches]
         count = bisect.bisect_left(written, lines)
         kept = bisect.bisect_right(written, max((it for it in self.keeping if it < lines), default=-1))
@@ -121,14 +127,14 @@ class Story:
 
 
 def want_accepted(recording):
-    """Each command was done."""
+    """Checks that each command was done."""
     for line, answer in zip(recording.script, recording.answers):
         if answer not in (("worked", "idle") if line.startswith("work ") else ("ok",)):
             raise Wrong(f"{line[:200]!r} was answered {answer[:200]!r}")
 
 
 def want_certain(recording):
-    """Each write was done, or refused before it began."""
+    """Checks that each write was done, or refused before it began."""
     for line, answer in zip(recording.script, recording.answers):
         if line.split(" ")[0] in WRITES and answer in (MEMORY, DEVICE):
             raise InDoubt(line)
@@ -137,7 +143,7 @@ def want_certain(recording):
 
 
 def want_locked(story):
-    """Each open has the lock before it changes another file."""
+    """Checks that each open has the lock before it changes another file."""
     for line, text in enumerate(story.script):
         calls = [story.history.calls[at] for at in story.calls_of(line)]
         locks = [at for at, it in enumerate(calls) if isinstance(it, Locked)]
@@ -150,8 +156,8 @@ def want_locked(story):
 
 
 def breach(story, found, least, most, is_last):
-    """What is wrong with a folder that is to hold the first so many batches, and at most so many; nothing, where it does. What it says of
-    the last sequence is to be in accord with that."""
+    """Says what is wrong with a folder that must hold between so many and so many first batches, or
+    nothing. Its last sequence must agree."""
     if found.refusal:
         return found.refusal
     states = [story.state(count) for count in range(least, most + 1)]
@@ -163,13 +169,14 @@ def breach(story, found, least, most, is_last):
 
 
 def breach_of_stop(story, remains, found):
-    """All that was answered is there, and of the batch under way all or nothing."""
+    """Checks that all that was answered is there, and of the batch under way all or nothing."""
     count, _, is_under_way = story.accepted(remains.moment)
     return breach(story, found, count, count + is_under_way, operator.eq)
 
 
 def breach_of_loss(story, remains, found):
-    """All up to the last synced batch that was answered is there, or to the last open, where these keep what they find, and of what came behind it
-    a beginning: no batch is gone while a later one is there. (A MANIFEST that was synced may tell of sequences whose batches are lost.)"""
+    """Checks that all up to the last synced batch that was answered is there, or to the last open
+    if opens keep what they find. Of what came later a prefix must be there: no batch is gone while
+    a later one is there. (A synced MANIFEST may tell of sequences whose batches are lost.)"""
     count, kept, is_under_way = story.accepted(remains.moment)
     return breach(story, found, kept, count + is_under_way, operator.ge)

@@ -1,9 +1,9 @@
 """The kit's own judge of edits, and the checks that it makes.
 
-`rt` is one Python file, and is loaded here as `tools/building.py` loads its other: so what an edit came to is told by rt's own
-`must_fail`, in its words and by its rules, whichever kit stands here, and a group of edits is applied and checked by the very
-functions that try a single one. (`rt must-fail` itself tries one edit at a time, and `rt check` keeps what it proved in the folder
-that it checks, which then has to be copied for each group.)
+`rt` is one Python file, and is loaded here as `tools/building.py` loads its other. So rt's own
+`must_fail` judges an edit, in its words and by its rules, with any kit. A group of edits is applied
+and checked by the functions that try a single one. (`rt must-fail` itself tries one edit at a time.
+`rt check` keeps what it proved in the folder that it checks, which must be copied for each group.)
 """
 import functools
 import importlib.machinery
@@ -23,12 +23,13 @@ STOPPED = threading.Event()
 
 
 class Stopped(Exception):
-    """The run was stopped while a check ran."""
+    """Says that the run was stopped while a check ran."""
 
 
 @functools.cache
 def rt():
-    """The kit's rt. Its checks end with this process, however it ends: they are one process group, which is begun here once."""
+    """Returns the kit's rt. Its checks end with this process, however it ends: they are one process
+    group, which begins here once."""
     loader = importlib.machinery.SourceFileLoader("rt_of_the_kit", os.path.realpath(RT))
     made = importlib.util.module_from_spec(importlib.util.spec_from_loader(loader.name, loader))
     sys.modules[loader.name] = made
@@ -48,7 +49,7 @@ def rt():
 
 
 def stop_checks():
-    """Ends the checks that still run: what these would say is told to nobody."""
+    """Ends the checks that still run; what they would say is dropped."""
     STOPPED.set()
     found = re.search(r"setpgid\(0, (\d+)\)", " ".join(rt().rtlib.guarded()))
     if found:
@@ -56,7 +57,7 @@ def stop_checks():
 
 
 class Prover:
-    """Checks a crate of a copy of the repository, with other texts in place of its own."""
+    """Checks a crate of a copy of the repository, with other texts instead of its own."""
 
     def __init__(self, crate, copy):
         self.name = crate
@@ -68,8 +69,8 @@ class Prover:
         return f"{self.room}/seed"
 
     def begin(self):
-        """Checks the crate as it stands, over what is kept of it in this checkout, and answers whether it is proved: what this leaves is
-        the seed, over which each edit is tried."""
+        """Checks the crate as it stands, over what is kept of it in this checkout, and returns
+        whether it is proved. What this leaves is the seed, over which each edit is tried."""
         if not all(it.is_built() for it in self.crate.below()):
             return False
         start = f"{ROOT}/crates/{self.name}/out/incremental"
@@ -90,35 +91,37 @@ class Prover:
         return not ran.returncode
 
     def is_untouched(self):
-        """Whether no check has changed the seed."""
+        """Says whether no check has changed the seed."""
         return rt().listing(self.kept) == self.files
 
     def is_sound(self):
-        """Whether the crate is still proved over the seed."""
+        """Says whether the crate is still proved over the seed."""
         return self.is_untouched() and not rt().checked(self.crate, {}, ONE_JOB, self.kept).returncode
 
     def over_a_copy(self, check):
-        """What the check answers, over a copy of the seed that is its own."""
+        """Returns what the check says, over its own copy of the seed."""
         with tempfile.TemporaryDirectory(prefix="over-", dir=self.room) as over:
             rt().linked(self.kept, f"{over}/kept")
             return check(f"{over}/kept")
 
     def edited(self, edits):
-        """The texts of the files that these edits change together, by their paths, or none where one doesn't apply over those before it."""
+        """Returns the texts of the files that these edits change together, by their paths. It
+        returns none if one doesn't apply over those before it."""
         return rt().edited("\n".join(it.text for it in edits), self.crate.folder)[0]
 
     def alone(self, path):
-        """What rt says of one edit: what it came to, and the line to print."""
+        """Returns what rt says of one edit: the result, and the line to print."""
         found = self.over_a_copy(lambda over: rt().must_fail(self.crate, path, ONE_JOB, over))
-        # (as rt does it: what comes to no result over the seed is tried from nothing)
+        # (as rt does: what has no result over the seed is tried from nothing)
         if found[0] in rt().SETTLED:
             return found
         whole = rt().must_fail(self.crate, path, ONE_JOB)
         return found if whole[0] == rt().UNSURE and found[0] == rt().MISSED else whole
 
     def together(self, texts, functions):
-        """The status and the words of a check of these functions, and of what they call, with these texts. (Callers of theirs are left out: a
-        function is proved from its own body and the contracts of what it calls.)"""
+        """Returns the status and the words of a check of these functions, and of what they call,
+        with these texts. (Their callers are left out: a function is proved from its own body and
+        the contracts of what it calls.)"""
         only = [word for it in functions for word in ("--only", it.partition("::")[2])]
         ran = self.over_a_copy(lambda over: rt().checked(self.crate, texts, [*ONE_JOB, *only], over))
         return ran.returncode, ran.stdout

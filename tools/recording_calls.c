@@ -1,11 +1,13 @@
-// Beneath a program, by LD_PRELOAD: its calls of the system that change files of one folder are recorded in their order, with what it
-// writes to its standard output between them. tools/recorded.py builds it and reads the record.
+// Records a program's system calls that change files of one folder, beneath it by LD_PRELOAD. They
+// stand in their order, with what the program writes to its standard output between them.
+// tools/recorded.py builds this and reads the record.
 //
-//   RECORD_FILE=FILE     where the record is put behind what is there
+//   RECORD_FILE=FILE     where the record is appended
 //   FOLDER=PATH          the folder, by the path that the program is given
 //   SLOW_SYNC=N          a sync of a table takes N milliseconds more, as on a slow device
 //
-// A file is told by its inode. Only what succeeded is recorded. A call and its entry are one step to all other threads.
+// A file is told by its inode. Only what succeeded is recorded. A call and its entry are one step
+// to all other threads.
 #define _GNU_SOURCE
 #include <dlfcn.h>
 #include <errno.h>
@@ -56,7 +58,7 @@ static void note(struct entry entry, const void *first, const void *second) {
   if (syscall(SYS_writev, record, parts, 3) != (long)(sizeof entry + entry.first + entry.second)) abort();
 }
 
-// The name of a file in the folder, or null.
+// Returns the name of a file in the folder, or null.
 static const char *name_of(const char *path) {
   size_t length = folder ? strlen(folder) : 0;
   return length && strncmp(path, folder, length) == 0 && path[length] == '/' ? path + length + 1 : NULL;
@@ -67,7 +69,7 @@ static uint64_t inode_of(int file) {
   return fstat(file, &found) == 0 ? found.st_ino : 0;
 }
 
-// The calls end here: what they answered, with errno as they left it.
+// Ends a call: returns its answer, with errno as it left it.
 #define DONE(result)                        \
   do {                                      \
     int error = errno;                      \
@@ -128,7 +130,7 @@ ssize_t __write(int file, const void *bytes, size_t count) {
   return wrote(NEXT(ssize_t(*)(int, const void *, size_t), "__write")(file, bytes, count), file, bytes);
 }
 
-// A table, by the name of its file.
+// Says whether it is a table, by the name of its file.
 static int is_table(int file) {
   char link[64], path[4096];
   snprintf(link, sizeof link, "/proc/self/fd/%d", file);
@@ -166,7 +168,7 @@ int unlink(const char *path) {
   DONE(result);
 }
 
-// A lock that was taken: by fcntl, whose third word is an address or a number.
+// Records a lock that was taken by fcntl, whose third word is an address or a number.
 static int locked(int result, int file, int command, void *word) {
   int takes = (command == F_SETLK || command == F_OFD_SETLK) && ((struct flock *)word)->l_type == F_WRLCK;
   if (result == 0 && record >= 0 && takes) note((struct entry){LOCKED, 0, inode_of(file), 0, 0, 0}, "", "");

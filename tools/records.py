@@ -1,4 +1,5 @@
-"""Files in which runs record what they have seen: a line for each crate, with some words. No line is written by hand."""
+"""Files in which runs record what they have seen: a line for each crate, with some words. Nobody
+writes a line by hand."""
 import fcntl
 import os
 import tempfile
@@ -7,13 +8,13 @@ from repository import ROOT
 
 
 class Records:
-    """A file of the repository, and what stands at its head."""
+    """Holds a file of the repository, and its head."""
 
     def __init__(self, file, head):
         self.file, self.head = file, head
 
     def rows(self, root=ROOT):
-        """By crate the words of its line."""
+        """Returns the words of each crate's line."""
         if not os.path.isfile(f"{root}/{self.file}"):
             return {}
         with open(f"{root}/{self.file}", encoding="utf-8") as lines:
@@ -21,7 +22,8 @@ class Records:
         return {crate: tuple(words) for crate, *words in rows}
 
     def write(self, crate, words):
-        """Writes the line of a crate, or takes it away where there are no words. Other runs may do so at the same time."""
+        """Writes the line of a crate, or removes it if there are no words. Other runs may do so at
+        the same time."""
         os.makedirs(f"{ROOT}/build", exist_ok=True)
         with open(f"{ROOT}/build/{os.path.basename(self.file)}.lock", "w", encoding="utf-8") as lock:
             fcntl.flock(lock, fcntl.LOCK_EX)

@@ -1,21 +1,25 @@
-"""Which crates' edits were all refused, as bugs/refused.txt records it, and of what text that is true.
+"""Which crates' edits were all refused, as bugs/refused.txt records it, and of what text that is
+true.
 
-A line is a crate, the number of its edits, and a sum of all that the prover reads where it judges them. tools/bugs writes it, and
-nothing else: tools/gate tries no edit of a crate whose line has the present sum.
+A line is a crate, the number of its edits, and a sum of all that the prover reads when it judges
+them. Only tools/bugs writes it. tools/gate tries no edit of a crate whose line has the present sum.
 
-**What the sum covers.** Of the crate itself its sources, definitions, proofs, edits and its line of crates.txt; of each crate below
-its line, sources and definitions, which have the contracts, types, constants and macros that it is judged by; the kit, since
-another prover may judge otherwise. A proof of a crate below is read where another one cites it, so the proofs of those crates that
-are cited by name, from the text that is covered, belong to it as well.
+**What the sum covers.** Of the crate itself it covers sources, definitions, proofs, edits and the
+line of crates.txt. Of each crate below it covers the line, sources and definitions, which have the
+contracts, types, constants and macros that the crate is judged by. It covers the kit, since another
+prover may judge otherwise. A proof of a crate below is read if another one cites it. So the proofs
+of crates below that are cited by name from the covered text belong to it as well.
 
-**Bodies below** are not covered: a function is judged by the contracts of those that it calls, and a library, as the kit builds it,
-keeps of each function its signature and its clauses alone (`out/rlib/CRATE.rlib/lang/src`). So a faster body in `coding` costs the edits
-of `coding`, and of no other crate. Bodies are told by the layout that `rt fmt` gives; where that leaves a doubt they count.
+**Bodies below** are not covered. A function is judged by the contracts of those that it calls, and
+a library, as the kit builds it, keeps only the signature and clauses of each function
+(`out/rlib/CRATE.rlib/lang/src`). So a faster body in `coding` costs the edits of `coding`, and of
+no other crate. Bodies are told by the layout of `rt fmt`; if that leaves a doubt, they count.
 
-**Comments** of sources and definitions are not covered, nor are blank lines: the prover doesn't read them, and each better sentence in
-`coding` would cost the edits of the whole tree, 80 minutes of processors. (An edit whose old text stands in a comment too no longer
-applies: tools/edits, with which the gate begins, says so.) Only the documentation comments of a crate that lists `clap` are, which
-makes help of them.
+**Comments** of sources and definitions and blank lines are not covered, since the prover doesn't
+read them. Each better sentence in `coding` would cost the edits of the whole tree, 80 processor
+minutes. (An edit whose old text also stands in a comment no longer applies: tools/edits, with which
+the gate begins, says so.) Documentation comments of a crate that lists `clap` do count, since
+`clap` makes help of them.
 """
 import functools
 import hashlib
@@ -32,7 +36,7 @@ RECORDS = Records("bugs/refused.txt", """\
 # all; never write one by hand. `make test` leaves out the edits of a crate whose line has the present sum.
 """)  # fmt: skip
 
-# Strings stay, whatever is in them; a comment goes.
+# Keeps strings, whatever is in them, and drops comments.
 RUST = re.compile(r"""(?P<kept>b?r(?P<marks>#*)".*?"(?P=marks)|b?"(?:\\.|[^"\\])*"|(?:(?<!\w)|\bb)'(?:\\[^\n]+?|[^\\'\n])')|/\*.*?\*/|//[^\n]*""", re.S)
 DOCUMENTED = re.compile(RUST.pattern.replace("//[^\\n]*", "//(?![/!])[^\\n]*"), re.S)
 ANTT = re.compile(r"^\s*--[^\n]*", re.M)
@@ -43,7 +47,7 @@ BEGINS = re.compile(r"( *)(?:#\[[^\]]*\] )?(?:pub(?:\([^)]*\))? )?(?:const )?(?:
 
 
 def bare(path, text, documented=False):
-    """The text without its comments and blank lines."""
+    """Returns the text without its comments and blank lines."""
     if path.endswith(".rt"):
         text = (DOCUMENTED if documented else RUST).sub(lambda it: it["kept"] or "", text)
     elif path.endswith(".antt"):
@@ -52,8 +56,9 @@ def bare(path, text, documented=False):
 
 
 def unbodied(text):
-    """A bare source without the bodies of its functions. A body opens on a line of its own, behind the clauses, or at the end of the
-    signature, and ends at the first closing brace at the function's indentation."""
+    """Returns a bare source without the bodies of its functions. A body opens on its own line after
+    the clauses, or at the end of the signature. It ends at the first closing brace at the
+    function's indentation."""
     kept, indent, inside = [], None, False
     for line in text.split("\n"):
         if inside:
@@ -74,13 +79,14 @@ def unbodied(text):
 
 @functools.cache
 def signatures(root, crate):
-    """The bare sources of a crate without bodies; a source whole where a macro may write functions elsewhere."""
+    """Returns the bare sources of a crate without bodies. A source stays whole if a macro may write
+    functions elsewhere."""
     return {path: text if "macro_rules!" in text else unbodied(text) for path, text in read(root, crate, "src").items()}
 
 
 @functools.cache
 def read(root, crate, part):
-    """The bare texts of a part of a crate, src, specs or proofs, by their paths."""
+    """Returns the bare texts of a part of a crate (src, specs or proofs), by their paths."""
     found, top = {}, f"{root}/crates/{crate}"
     for at, folders, names in os.walk(f"{top}/{part}"):
         folders.sort()
@@ -93,12 +99,12 @@ def read(root, crate, part):
 
 @functools.cache
 def cited(root, crate, part):
-    """The crates whose proofs a part of a crate cites."""
+    """Returns the crates whose proofs a part of a crate cites."""
     return {name for text in read(root, crate, part).values() for name in CITED.findall(text)}
 
 
 def covered(crate, root):
-    """The parts of crates that the sum covers, each with its texts."""
+    """Returns the parts of crates that the sum covers, each with its texts."""
     found = {(crate, part): read(root, crate, part) for part in ("src", "specs", "proofs")}
     for it in below(crate, root):
         found.update({(it, "src"): signatures(root, it), (it, "specs"): read(root, it, "specs")})
@@ -117,7 +123,8 @@ def kit():
 
 
 def sum_of(crate, root=ROOT, only=None):
-    """The sum of all that the prover reads where it judges the edits of a crate, or those of these files alone."""
+    """Returns the sum of all that the prover reads when it judges the edits of a crate, or those of
+    these files alone."""
     parts = sorted(covered(crate, root).items())
     lines = [(it, sorted(crates(root)[it])) for it in sorted([*below(crate, root), crate])]
     tried = []
@@ -128,16 +135,16 @@ def sum_of(crate, root=ROOT, only=None):
 
 
 def recorded(root=ROOT):
-    """The recorded lines: by crate the number of its edits and the sum."""
+    """Returns the recorded lines: the number of edits and the sum, by crate."""
     return {crate: (int(count), found) for crate, (count, found) in RECORDS.rows(root).items()}
 
 
 def state_of(crate, root=ROOT):
-    """`present`, `stale` or `absent`: what the crate's line is, over the text that stands there."""
+    """Says whether the crate's line is `present`, `stale` or `absent` over today's text."""
     found = recorded(root).get(crate)
     return "absent" if not found else "present" if found == (len(edits_of(crate, root)), sum_of(crate, root)) else "stale"
 
 
 def record(crate, line):
-    """Writes the line of a crate, a number of edits and a sum, or takes it away where there is none."""
+    """Writes the line of a crate, a number of edits and a sum, or removes it if there is none."""
     RECORDS.write(crate, line)

@@ -1,25 +1,26 @@
-"""What may be left of a folder, rebuilt from a recording of the calls on it (recorded.py): by a stop of the program, and by a loss of
-power.
+"""What may be left of a folder after a crash of the program and after a power loss, rebuilt from a
+recording of the calls on it (recorded.py).
 
-A stop leaves what the calls so far have done; one in the middle of a write leaves any number of its bytes.
+A crash leaves what the calls so far have done. One in the middle of a write leaves any number of
+its bytes. After a power loss this is assumed, as of ext4 and XFS with ordered data:
 
-Of a device that loses power is assumed, as of ext4 and XFS with ordered data:
-- a file that was synced keeps what it held then, and a folder that was synced keeps its names as they were then;
-- behind that, names reach the device in the order of the calls that changed them;
-- of each file there is a beginning of what it held, with what of it was synced at least;
-- nothing else stands in a file: no byte that was never written to it.
+- A synced file keeps what it held then, and a synced folder keeps its names as they were then.
+- After that, names reach the disk in the order of the calls that changed them.
+- Each file has a prefix of what it held, with the synced part at least.
+- Nothing else stands in a file: no byte that was never written to it.
 """
 from dataclasses import dataclass, replace
 
 from listed import Wrong
 from recorded import Moved, Opened, Removed, Synced, Wrote
 
-# what LevelDB says of what it does, which nobody reads
+# LevelDB's text about what it does, which nobody reads
 UNREAD = ("LOG", "LOG.old")
 
 
 class File:
-    """What a file holds, from the open on that made or emptied it: since then bytes are only added."""
+    """Holds what a file has since the open that made or emptied it; since then bytes are only
+    added."""
 
     def __init__(self, text=b""):
         self.text = bytearray(text)
@@ -28,8 +29,8 @@ class File:
 
 @dataclass(frozen=True)
 class Moment:
-    """A folder between two calls: each name with its file, of each file that there was how many bytes it had and how many of them
-    were synced; and at which moment the folder was synced last."""
+    """Holds a folder between two calls: each name with its file, how many bytes each file had and
+    how many of them were synced, and when the folder was synced last."""
 
     names: dict
     lengths: dict
@@ -38,8 +39,9 @@ class Moment:
 
 
 class History:
-    """The folder at each moment of a recording: in front of its first call, and behind each. `written` has the file of each write, by
-    its call's place among the calls. `keeps_names` says that a sync of any file keeps all names too, as a device with a journal does."""
+    """Holds the folder at each moment of a recording: before its first call, and after each.
+    `written` has the file of each write, by its call's place among the calls. `keeps_names` says
+    that a sync of any file keeps all names too, as a journal does."""
 
     def __init__(self, recording, calls, keeps_names=False):
         self.folder, self.calls, self.keeps_names = recording.inode, calls, keeps_names
@@ -68,7 +70,7 @@ class History:
             raise Wrong(f"{len(call.text)} bytes were written at {call.place} of a file that doesn't end there")
         file.text += call.text
         file.ends.append(len(file.text))
-        # (an inode is used again)
+        # (an inode may be used again)
         self.written[len(self.moments) - 1] = file
         return replace(now, lengths={**now.lengths, file: len(file.text)})
 
@@ -88,20 +90,21 @@ class History:
         return replace(now, synced={**now.synced, file: now.lengths[file]}) if file else now
 
     def want_end(self, found):
-        """What was rebuilt of the record is what stands in the folder: no call was overlooked."""
+        """Checks that what was rebuilt is what stands in the folder: no call was overlooked."""
         wanted = {name: text for name, (_, text) in found.items() if name not in UNREAD}
         if holding(self.moments[-1].names, self.moments[-1].lengths) != wanted:
             raise Wrong("the record doesn't lead to what stands in the folder")
 
 
 def holding(names, lengths):
-    """The bytes of each name."""
+    """Returns the bytes of each name."""
     return {name: bytes(file.text[: lengths[file]]) for name, file in names.items()}
 
 
 @dataclass(frozen=True)
 class Remains:
-    """What is left: its files, behind which call, each name with its file and how long that is; and in which way it came about."""
+    """Holds what is left: the files, after which call, each name with its file and that one's
+    length, and how it came about."""
 
     moment: int
     names: dict
@@ -113,11 +116,12 @@ class Remains:
         return holding(self.names, self.lengths)
 
 
-# ---- stops
+# ---- crashes
 
 
 def stops(history, chance):
-    """What a stop leaves: at each moment, and in the middle of each write behind some of its bytes."""
+    """Returns what a crash leaves: at each moment, and in the middle of each write after some of
+    its bytes."""
     for number, now in enumerate(history.moments):
         yield Remains(number, now.names, now.lengths, f"a stop behind call {number}")
         file = history.written.get(number)
@@ -127,16 +131,18 @@ def stops(history, chance):
 
 
 def cuts(length, chance):
-    """Numbers of bytes at which a write of this length is cut, with some of it done and some not."""
+    """Returns numbers of bytes at which a write of this length is cut, some of it done and some
+    not."""
     some = {1, length // 2, length - 1, *(chance.randrange(length) for _ in range(2))}
     return sorted(it for it in some if 0 < it < length)
 
 
-# ---- losses of power
+# ---- power losses
 
 
 def names_in_order(history, number):
-    """The names that the device may have: of each moment since the folder was synced."""
+    """Returns the names that the disk may have: those of each moment since the folder's last
+    sync."""
     found = {}
     for now in history.moments[history.moments[number].names_synced : number + 1]:
         found.setdefault(id(now.names), now.names)
@@ -144,7 +150,8 @@ def names_in_order(history, number):
 
 
 def names_without(history, number, chance):
-    """Names that a device may have to which they come in any order: some calls since the folder was synced aren't done."""
+    """Returns names that may be on a disk that they reach in any order: some calls since the
+    folder's last sync aren't done."""
     since = history.moments[number].names_synced
     names = dict(history.moments[since].names)
     for at in range(since, number):
@@ -161,7 +168,8 @@ def names_without(history, number, chance):
 
 
 def lost(history, number, names, how):
-    """What is left of these names, with each file as long as that says of its file, and of the least and the most that it may have."""
+    """Returns what is left of these names. `how` says how long each file is, by its name and the
+    least and the most that it may have."""
     now = history.moments[number]
     lengths = {it: how(it, now.synced[it], now.lengths[it]) for it in names.values()}
     return Remains(number, names, lengths, f"a loss of power behind call {number}")
@@ -176,7 +184,7 @@ def most(_, __, held):
 
 
 def drawn(chance):
-    """Lengths where files are written to, and others between."""
+    """Returns lengths at which files are written to, and others between."""
 
     def length(file, synced, held):
         between = [it for it in file.ends if synced <= it <= held]
@@ -186,14 +194,14 @@ def drawn(chance):
 
 
 def all_but_one(chance, names):
-    """One file with the least, and all others with the most, or the other way round."""
+    """Returns one file with the least and all others with the most, or the other way round."""
     chosen, flipped = chance.choice(list(names.values()) or [None]), chance.random() < 0.5
     return lambda file, synced, held: synced if (file is chosen) != flipped else held
 
 
 def losses(history, chance, count):
-    """What a loss of power leaves: at each moment with all names that the device may have, the least and the most of all files; and
-    so many that are drawn."""
+    """Returns what a power loss leaves: at each moment, with all names that the disk may have, the
+    least and the most of all files, and so many drawn states."""
     for number in range(len(history.moments)):
         for names in names_in_order(history, number):
             yield from (lost(history, number, names, how) for how in (least, most))
@@ -204,7 +212,7 @@ def losses(history, chance, count):
 
 
 def losses_in_any_order(history, chance, count):
-    """The same of a device to which names come in any order, all of it drawn."""
+    """Returns the same for a disk that names reach in any order, all of it drawn."""
     for _ in range(count):
         number = chance.randrange(len(history.moments))
         yield lost(history, number, names_without(history, number, chance), chance.choice((least, most, drawn(chance))))

@@ -12,13 +12,14 @@ sys.dont_write_bytecode = True
 ROOT = os.path.dirname(os.path.dirname(os.path.realpath(__file__)))
 RT = shutil.which(os.environ.get("RT") or "rt") or os.environ.get("RT") or "/opt/rattle/bin/rt"
 
-# What a check takes at most, so that as many run side by side as there are processors, where the memory is there. (By itself rt
-# reckons twice that for `engine`, which then waits until nearly all edits below it were tried.)
+# The most memory of a check: so as many run side by side as there are processors, if memory allows.
+# (By itself rt reckons twice that for `engine`, which then waits for nearly all edits below it.)
 MEMORY_OF_A_CHECK = 5 << 30
 
 
 def lanes():
-    """How many checks run side by side: as the environment says, or as there are processors and memory."""
+    """Returns how many checks run side by side: as the environment says, or as processors and
+    memory allow."""
     memory = os.sysconf("SC_PHYS_PAGES") * os.sysconf("SC_PAGE_SIZE")
     said = os.environ.get("RT_JOBS", "")
     return int(said) if said.isdigit() and int(said) else max(1, min(len(os.sched_getaffinity(0)), memory // MEMORY_OF_A_CHECK))
@@ -26,7 +27,7 @@ def lanes():
 
 @functools.cache
 def crates(root=ROOT):
-    """The crates of crates.txt, lowest first, each with the libraries that it names."""
+    """Returns the crates of crates.txt, lowest first, each with the libraries that it names."""
     found = {}
     with open(f"{root}/crates.txt", encoding="utf-8") as lines:
         for line in lines:
@@ -38,7 +39,7 @@ def crates(root=ROOT):
 
 @functools.cache
 def below(crate, root=ROOT):
-    """The crates of the repository on which this one stands."""
+    """Returns the crates of the repository on which this one stands."""
     found = []
     for it in crates(root).get(crate, []):
         if it in crates(root):
@@ -47,14 +48,15 @@ def below(crate, root=ROOT):
 
 
 def edits(folder, root=ROOT):
-    """The edits of a folder, in the order of their names."""
+    """Returns the edits of a folder, in the order of their names."""
     path = f"{root}/{folder}"
     names = sorted(os.listdir(path)) if os.path.isdir(path) else []
     return [f"{folder}/{it}" for it in names if it.endswith(".edit")]
 
 
 def edits_of(crate, root=ROOT):
-    """All edits of a crate: those that the gate may try, and those that only tools/bugs does."""
+    """Returns all edits of a crate: those that the gate may try, and those that only tools/bugs
+    tries."""
     return [*edits(f"crates/{crate}/must-fail", root), *edits(f"bugs/{crate}", root)]
 
 
@@ -63,7 +65,7 @@ def is_program(crate):
 
 
 def asked(words):
-    """The crates that the command's words name: all with none."""
+    """Returns the crates that the command's words name, or all."""
     unknown = [it for it in words if it not in crates()]
     if unknown:
         sys.exit(f"{os.path.basename(sys.argv[0])}: crates.txt names no crate {unknown[0]}")
@@ -71,7 +73,7 @@ def asked(words):
 
 
 def texts():
-    """The files that git knows or would, whoever owns the checkout."""
+    """Returns the files that git knows or would, whoever owns the checkout."""
     listing = ["git", "-c", f"safe.directory={ROOT}", "ls-files", "-z", "--cached", "--others", "--exclude-standard"]
     found = subprocess.check_output(listing, cwd=ROOT, text=True).split("\0")
     return [it for it in found if it and os.path.isfile(f"{ROOT}/{it}")]
@@ -79,7 +81,8 @@ def texts():
 
 @contextlib.contextmanager
 def copied(name, built=()):
-    """A copy of the files that git knows or would, with the libraries of the crates named that stand here; it is gone at the end."""
+    """Makes a copy of the files that git knows or would, with the libraries of the named crates
+    that stand in this checkout. It is gone at the end."""
     signal.signal(signal.SIGTERM, lambda *_: sys.exit(143))
     os.makedirs(f"{ROOT}/build", exist_ok=True)
     copy = tempfile.mkdtemp(prefix=f"{name}-", dir=f"{ROOT}/build")
@@ -94,12 +97,13 @@ def copied(name, built=()):
         try:
             shutil.rmtree(copy)
         finally:
-            # (what is left where a signal came in the midst of that)
+            # (what is left if a signal came in the midst of that)
             shutil.rmtree(copy, ignore_errors=True)
 
 
 def lend(crate, copy):
-    """Gives a copy the crate's library, where it stands here. Its files are never written in place, so that links do."""
+    """Gives a copy the crate's library if it stands in this checkout. Links will do, since nothing
+    writes its files where they lie."""
     library = f"{ROOT}/crates/{crate}/out/rlib"
     if os.path.isfile(f"{library}/stamp"):
         shutil.rmtree(f"{copy}/crates/{crate}/out/rlib", ignore_errors=True)

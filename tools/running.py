@@ -1,4 +1,4 @@
-"""How tools/program runs ldbtool and compares what it prints."""
+"""Runs ldbtool for tools/program, and compares what it prints."""
 import os
 import re
 import subprocess
@@ -23,20 +23,20 @@ def short(it):
 
 
 class Under:
-    """The program under test: what `make build` made, where nothing else is said."""
+    """Returns the program under test: what `make build` made, if nothing else is said."""
 
     program = os.environ.get("LDBTOOL") or f"{ROOT}/build/ldbtool"
 
 
 def under_test(path=None):
-    """Where the program is that the checks run; a path that is given is that from now on."""
+    """Returns the path of the program that the checks run; a given path is that from now on."""
     if path:
         Under.program = path
     return os.path.abspath(Under.program)
 
 
 def missing():
-    """Why the checks can't run, or nothing."""
+    """Says why the checks can't run, or nothing."""
     return "" if os.path.isfile(under_test()) else f"there is no {under_test()}: make build proves and makes it"
 
 
@@ -48,7 +48,7 @@ def lines(*texts):
     return "".join(f"{text}\n" for text in texts).encode()
 
 
-# why there was a refusal: of a line of a script, of a folder, of a file of it; and where that comes from
+# why there was a refusal: of a script's line, of a folder, of a file in it; and its source
 REASON = re.compile(
     rb"ldbtool: (line \d+: |.*: (refused \d|(table|log) \d|each file is sound|`ldbtool check --keep-going|can't be listed|a name in it)"
     rb"|.*/(CURRENT|LOCK|MANIFEST-\d+|\d+\.(log|ldb|sst|dbtmp)): )"
@@ -56,17 +56,17 @@ REASON = re.compile(
 
 
 def said_beside(printed, said):
-    """What was said on standard error, but for why there are refusals among what was printed."""
+    """Returns what was said on standard error, without the reasons of printed refusals."""
     return b"".join(it for it in said.splitlines(keepends=True) if b"refused" not in printed or not REASON.match(it))
 
 
 def want_ran(ran, status, printed, what):
-    """It printed this, and said nothing, but for why there are refusals."""
+    """Checks that it printed this, and said nothing but the reasons of refusals."""
     want((ran.returncode, ran.stdout, said_beside(printed, ran.stderr)), (status, printed, b""), what)
 
 
 def want_answers(folder, script, answers, *options):
-    """Runs a script of `;`-separated commands, or of raw bytes, which is answered so."""
+    """Runs a script of `;`-separated commands, or of raw bytes, and checks its answers."""
     if isinstance(script, str):
         script = lines(*[it.strip() for it in script.split(";")])
     wanted = lines(*[it.strip() for it in answers.split(";")]) if answers else b""
@@ -74,7 +74,7 @@ def want_answers(folder, script, answers, *options):
 
 
 def no_current(folder):
-    """What a check says of a folder that it prints as `empty`."""
+    """Returns what a check says of a folder that it prints as `empty`."""
     return f"ldbtool: {folder}: no CURRENT here: no database, or an empty one\n".encode()
 
 
@@ -91,10 +91,10 @@ def want_entries(folder, *wanted, status=0, options=()):
 
 
 def want_printed(words, status, *printed, script=b""):
-    """Runs a command that prints these lines, and says nothing."""
+    """Runs a command that must print these lines, and say nothing."""
     want_ran(ldbtool(*words, script=script), status, lines(*printed), " ".join(words))
 
 
 def want_fault(ran, status, what):
-    """Nothing on standard output, and a line or more on standard error."""
+    """Checks that nothing is on standard output, and a line or more on standard error."""
     want((ran.returncode, ran.stdout, ran.stderr != b""), (status, b"", True), what)

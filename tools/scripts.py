@@ -1,4 +1,5 @@
-"""Scripts and command lines for ldbtool with what must be answered, written down by hand, for the checks of tools/program."""
+"""Scripts and command lines for ldbtool with the answers that they must get, written down by hand,
+for the checks of tools/program."""
 
 # each begins in an empty folder
 SCRIPTS = [
@@ -40,7 +41,8 @@ BAD_LINES = [
 FIVE_TABLES = "open new; " + "; ".join(f"put 6{n} 3{n}; work 9; work 9" for n in range(1, 6)) + "; work 1"
 FIVE_ANSWERS = "ok; " + "; ".join(["ok; worked; worked"] * 5) + "; worked"
 
-# each begins in an empty folder: the options, the commands, their answers, and what a dump prints behind them
+# each begins in an empty folder: the options, the commands, their answers, and what a dump prints
+# afterwards
 WORKED = [
     ("", "open new; put 61 31; put 62 32; put 63 33; iter; seek 1 62; put 6262 34; del 63; compact all; next 1; next 1; next 1; drop 1; compact all",
      "ok; ok; ok; ok; iter 1; at 62 32; ok; ok; ok; at 63 33; end; refused 10 NoPlace; ok; ok",
@@ -90,7 +92,7 @@ MISUSES = [
     ["dump", "--order", "bytes", "--order", "reverse", "DIR"], ["--order", "bytes", "check", "DIR"],
 ]  # fmt: skip
 
-# command lines that are wrong in a way that one line tells: the words, and what stands in that line
+# command lines that are wrong in a way that one line says: the words, and what stands in that line
 TOLD_MISUSES = [
     (["check", "--order", "backwards", "DIR"], "--order: `bytes` or `reverse` is wanted"),
     (["run", "--work", "always", "DIR"], "--work: `auto` is wanted"),

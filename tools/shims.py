@@ -1,4 +1,4 @@
-"""What stands beneath a program by LD_PRELOAD, so that one call of a number is refused and all are counted."""
+"""Runs programs over a shim (LD_PRELOAD) that refuses the call of one number and counts all."""
 import os
 import struct
 import subprocess
@@ -10,11 +10,11 @@ SECONDS = 60
 
 
 class Missing(Exception):
-    """What has to be there before a program can be run so."""
+    """Says what must be there before a program can be run so."""
 
 
 def built_shim(room, name):
-    """The shim of tools/NAME.c."""
+    """Builds the shim of tools/NAME.c."""
     shim = f"{room}/{name}.so"
     try:
         subprocess.run(["cc", "-shared", "-fPIC", "-O1", "-Wall", "-Wextra", "-o", shim, f"{ROOT}/tools/{name}.c"], check=True)
@@ -24,7 +24,7 @@ def built_shim(room, name):
 
 
 class Run:
-    """One run of a program over a shim, in which the call of this number is refused, or none: 0."""
+    """Runs a program over a shim that refuses the call of this number, or none if it is 0."""
 
     def __init__(self, shim, words, number, script=b"", **given):
         with tempfile.NamedTemporaryFile() as counts:

@@ -1,4 +1,5 @@
-"""What provers have paid, crate by crate: the processor seconds of those that an `rt ci` starts, read from /proc while they run."""
+"""Counts what provers pay, crate by crate: the processor seconds of those that an `rt ci` starts,
+read from /proc while they run."""
 import os
 import threading
 
@@ -9,7 +10,7 @@ EVERY = 1.0
 
 PROOF, TESTS, EDITS = "proof", "tests", "edits"
 
-# a crate that is proved by every gate, in half a minute
+# a crate that every gate proves, in half a minute
 MEASURE = "ikey"
 
 
@@ -24,24 +25,25 @@ def fields_of(process):
 
 
 def used_by(process):
-    """When it started, and the seconds that it and what it waited for have used."""
+    """Returns when it started, and the seconds that it and what it waited for have used."""
     fields = fields_of(process)
     return int(fields[19]), sum(map(int, fields[11:15])) / TICKS
 
 
 def is_below(process, run):
-    """Whether the process was started by the run, or by what that has started."""
+    """Says whether the run started the process, or a process that the run started."""
     while int(process) > 1 and int(process) != run:
         process = fields_of(process)[1]
     return int(process) == run
 
 
 class Spent(threading.Thread):
-    """Looks at the provers of a run in a folder until it is told to stop."""
+    """Watches the provers of a run in a folder until it is told to stop."""
 
     def __init__(self, run, root):
         super().__init__(daemon=True)
-        # (by process, since others may try edits at the same time: the folder of an edit doesn't say whose it is)
+        # (by process, since others may try edits at the same time: the folder of an edit doesn't
+        # say whose it is)
         self.process, self.root = run, root
         self.ended = threading.Event()
         # by process and start: the crate, what it was for, and its seconds
@@ -71,7 +73,8 @@ class Spent(threading.Thread):
         self.seen[int(process), start] = words[words.index("--crate-name") + 1], what, start, seconds
 
     def paid(self):
-        """The seconds of each crate's proof, of that of its tests and of each of its edits, in their order, where there are any."""
+        """Returns the seconds of each crate's proof, of its tests' proof and of each of its edits,
+        in their order, if there are any."""
         self.ended.set()
         if self.is_alive():
             self.join()
@@ -81,7 +84,8 @@ class Spent(threading.Thread):
         return {it: found[it] for it in crates() if it in found}
 
     def rows(self):
-        """A line for each crate of which something was proved: its proof, the proof of its tests, the first of its edits and each further one."""
+        """Returns a line for each crate of which something was proved: its proof, the proof of its
+        tests, the first of its edits and each further one."""
         for crate, paid in self.paid().items():
             first, further = paid[EDITS][:1], paid[EDITS][1:]
             tried = f"{first[0]:.0f} + {sum(further) / max(1, len(further)):.0f}" if first else "-"
@@ -89,7 +93,8 @@ class Spent(threading.Thread):
             yield f"| `{crate}` | {shown[0]} | {shown[1]} | {tried} |"
 
     def told(self):
-        """The minutes of all proofs, of those of tests and of edits, and the seconds of the crate by which one machine is told from another."""
+        """Returns the minutes of all proofs, of those of tests and of edits, and the seconds of the
+        crate by which machines are compared."""
         paid = self.paid()
         sums = [sum(sum(it[what]) for it in paid.values()) / 60 for what in (PROOF, TESTS, EDITS)]
         measure = f"{sum(paid[MEASURE][PROOF]):.0f} s" if MEASURE in paid else "none"

@@ -1,4 +1,5 @@
-"""The checks of tools/program that are about streams: outputs that fail, pipes, and what a person at a terminal sees."""
+"""Checks of tools/program about streams: outputs that fail, pipes, and what a person at a terminal
+sees."""
 import contextlib
 import os
 import re
@@ -15,7 +16,8 @@ from running import SECONDS, ldbtool, lines, said_beside, under_test, want, want
 
 
 def failing_behind(count):
-    """What a child does before it starts, so that no file of its grows beyond this; it is told so by an error."""
+    """Prepares a child before it starts, so that none of its files grows beyond this. It gets an
+    error then."""
 
     def limit():
         signal.signal(signal.SIGXFSZ, signal.SIG_IGN)
@@ -25,7 +27,8 @@ def failing_behind(count):
 
 
 def want_beginning(room, words, script, whole, count):
-    """With an output that takes so many bytes, exactly these are written, and the status is 1."""
+    """Checks that an output that takes so many bytes gets exactly these, and that the status is
+    1."""
     path = f"{room}/output"
     with open(path, "wb") as output:
         how = {"input": script, "stdout": output, "stderr": subprocess.PIPE, "timeout": SECONDS, "preexec_fn": failing_behind(count)}
@@ -90,7 +93,8 @@ def closed_pipe(room):
 
 @contextlib.contextmanager
 def at_hand(folder, *options):
-    """The program with its input and output at hand; at the end the input is closed, and the rest of the output read."""
+    """Runs the program with its input and output at hand. At the end the input is closed, and the
+    rest of the output read."""
     with subprocess.Popen([under_test(), "run", *options, folder], stdin=subprocess.PIPE, stdout=subprocess.PIPE, stderr=subprocess.DEVNULL, bufsize=0) as ran:
         yield ran
         ran.stdin.close()
@@ -141,13 +145,14 @@ def locked(room):
 
 
 def read_by(ran):
-    """How many bytes a process has read."""
+    """Returns how many bytes a process has read."""
     with open(f"/proc/{ran.pid}/io", encoding="ascii") as file:
         return int(re.search(r"rchar: (\d+)", file.read())[1])
 
 
 def is_held(verb, folder, error):
-    """Holds a reading of a folder for more than a second, and answers whether that was on its way: a busy machine may come to it too late."""
+    """Holds a reading of a folder for more than a second, and returns whether the reading was on
+    its way. A busy machine may come to it too late."""
     with subprocess.Popen([under_test(), verb, folder], stdin=subprocess.DEVNULL, stdout=subprocess.DEVNULL, stderr=error) as ran:
         while ran.poll() is None and read_by(ran) < 1_000_000:
             pass
@@ -161,7 +166,7 @@ def is_held(verb, folder, error):
 
 
 def said_when_held(verb, folder, error):
-    """Does so until it was held on its way."""
+    """Does this until the reading was held on its way."""
     want(any(is_held(verb, folder, error) for _ in range(20)), True, f"a {verb} is held before it ends")
 
 

@@ -1,4 +1,4 @@
-"""The checks of tools/program that are about the command line, and about what is told of it."""
+"""Checks of tools/program about the command line, and about what the program tells of it."""
 import os
 import re
 import shutil
@@ -16,7 +16,7 @@ from scripts import MISUSES, OPTIONS, OTHER_OPTIONS, TOLD, TOLD_MISUSES, VERBS
 
 
 def words_of(verb, folder):
-    """A verb with what it can't be without."""
+    """Returns a verb with what it can't be without."""
     return [verb, folder, "61"] if verb == "get" else [verb, folder]
 
 

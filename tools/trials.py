@@ -1,8 +1,9 @@
-"""How several edits of a crate are tried by one check, and what its report says of each.
+"""Tries several edits of a crate by one check, and reads what its report says of each.
 
-The prover proves a function from its own body, its own proof files and the contracts of what it calls: no proof can open another
-function's body. So edits of several bodies can stand side by side, and each is refused where its own function is. What the report
-says of a function only because another one isn't proved says nothing of its edit: that edit is undecided, and is tried again.
+The prover proves a function from its own body, its own proof files and the contracts of what it
+calls: no proof can open another function's body. So edits of several bodies can stand side by side,
+and each is refused if its own function is. If the report names a function only because another one
+isn't proved, that says nothing of its edit. That edit is undecided, and is tried again.
 """
 import os
 import re
@@ -11,7 +12,7 @@ from typing import NamedTuple
 from bodies import bodies, named
 from prover import rt
 
-# Each further edit costs less than one alone, and holds back others where its function is called.
+# Each further edit costs less than one alone, and holds back others if its function is called.
 MOST = 10
 
 SAID = re.compile(r"fn (\S+): (.*)")
@@ -22,7 +23,8 @@ FEW = "only because a proof file names what the edit took away, so this says lit
 
 
 class Edit(NamedTuple):
-    """An edit, and of each function that it changes the name, the source and the lines; none where it changes something else."""
+    """Holds an edit, with name, source and lines of each function that it changes. It has none if
+    it changes something else."""
 
     name: str
     path: str
@@ -36,7 +38,8 @@ class Edit(NamedTuple):
 
 
 def places(text, folder):
-    """The sources and lines that an edit changes, counted from 0, or nothing where it can't be told."""
+    """Returns the sources and lines that an edit changes, counted from 0, or nothing if that is
+    unclear."""
     found, texts, path, old = [], {}, "", ""
     for line in text.split("\n"):
         if line.startswith("file: "):
@@ -57,7 +60,8 @@ def places(text, folder):
 
 
 def change(path, line, prover):
-    """The function whose body has this line: its name, source, lines and calls; nothing where there is none."""
+    """Returns the function whose body has this line: its name, source, lines and calls; nothing if
+    there is none."""
     with open(f"{prover.crate.folder}/{path}", encoding="utf-8") as file:
         inside = [it for it in bodies(file.read()) if it.first < line < it.end]
     name = named(inside[0], path, prover.name, prover.functions) if len(inside) == 1 else ""
@@ -65,7 +69,7 @@ def change(path, line, prover):
 
 
 def read(path, prover):
-    """The edit of a file, as it would change the crate."""
+    """Reads the edit of a file, as it would change the crate."""
     with open(path, encoding="utf-8", errors="replace") as file:
         text = file.read()
     edit, found = Edit(os.path.basename(path), path, text), [change(*it, prover) for it in places(text, prover.crate.folder)]
@@ -75,7 +79,8 @@ def read(path, prover):
 
 
 def callees(prover):
-    """By the last part of a function's name all that it calls, and what that calls, by the last parts of their names."""
+    """Returns all that each function calls, and what that calls, by the last parts of their
+    names."""
     direct = {}
     for at, _, names in os.walk(f"{prover.crate.folder}/src"):
         for name in (it for it in names if it.endswith(".rt")):
@@ -94,14 +99,16 @@ def reached(name, direct):
 
 
 def meet(one, other, below):
-    """Whether two edits change one function, or one a function that the other's calls, as far as names tell."""
+    """Says whether two edits change one function, or one changes a function that the other's calls,
+    as far as names tell."""
     last = [{it.rpartition("::")[2] for it in edit.functions} for edit in (one, other)]
     ways = ((last[0], last[1]), (last[1], last[0]))
     return bool(one.functions & other.functions) or any(below.get(it, set()) & called for callers, called in ways for it in callers)
 
 
 def groups(edits, prover):
-    """The edits in groups that are tried together, and one by one those that are tried alone."""
+    """Returns the edits in groups that are tried together, and one by one those that are tried
+    alone."""
     below, found = callees(prover), []
     for edit in (it for it in edits if it.changes):
         fits = (it for it in found if len(it) < MOST and not any(meet(edit, other, below) for other in it))
@@ -114,12 +121,13 @@ def groups(edits, prover):
 
 
 def folder_of(function):
-    """Where the proof files of a function stand. (That of one that calls itself has a mark.)"""
+    """Returns where the proof files of a function stand. (That of one that calls itself has a
+    mark.)"""
     return function.partition("::")[2].replace("::", "/")
 
 
 def is_whole(status, lines, texts, prover):
-    """Whether the check went to its end, and refused nothing but functions."""
+    """Says whether the check went to its end, and refused nothing but functions."""
     if status != 1 or not lines[-1].startswith("only=") or rt().rtlib.STALE.search("\n".join(lines)):
         return False
     if any(rt().unread(it, texts) or re.search(r"\berror\[[\w-]+\]", it) for it in lines):
@@ -130,7 +138,8 @@ def is_whole(status, lines, texts, prover):
 
 
 def told_of(edit, lines):
-    """The lines of a report that are about the functions that an edit changes: at their proof files, or at their lines of the source."""
+    """Returns the lines of a report about the functions that an edit changes: at their proof files,
+    or at their lines of the source."""
     found = []
     for line in lines:
         at = PLACE.match(line)
@@ -142,7 +151,7 @@ def told_of(edit, lines):
 
 
 def is_refused(edit, said, told):
-    """Whether the report refuses one of the edit's functions for its own sake."""
+    """Says whether the report refuses one of the edit's functions for its own sake."""
     for it in edit.functions:
         words = said.get(it, "")
         own = WAITS.sub("", words)
@@ -154,8 +163,8 @@ def is_refused(edit, said, told):
 
 
 def judged(edits, status, report, texts, prover):
-    """What a check of these edits together came to, by their names: a line for each that is refused, and nothing for one that isn't, or
-    of which nothing is known."""
+    """Returns the result of a check of these edits together, by their names: a line for each that
+    is refused, and nothing for one that isn't, or of which nothing is known."""
     lines = report.rstrip("\n").split("\n")
     if not is_whole(status, lines, texts, prover):
         return {}
@@ -170,7 +179,7 @@ def judged(edits, status, report, texts, prover):
 
 
 def try_group(edits, prover):
-    """Tries the edits together, and answers the lines of those that are refused, by their names."""
+    """Tries the edits together, and returns the lines of those that are refused, by their names."""
     texts = prover.edited(edits)
     if not texts:
         return {}

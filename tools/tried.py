@@ -1,7 +1,9 @@
-"""What the tries of a crate's edits came to, as runs of tools/bugs that were stopped keep it below build/tried.
+"""Keeps the results of tries of a crate's edits below build/tried, for runs of tools/bugs that were
+stopped.
 
-A result stands under the sum of all that the prover reads where it judges the crate (tools/refused.py), without its edits, and under
-the edit's own text: so one that was added or mended later is tried, and the others aren't. Only what was refused is kept.
+A result stands under two sums: that of all that the prover reads when it judges the crate
+(tools/refused.py), without its edits, and that of the edit's own text. So an edit that was added or
+mended later is tried, and the others aren't. Only what was refused is kept.
 """
 import hashlib
 import json
@@ -19,7 +21,7 @@ def key_of(path):
 
 
 class Tried:
-    """The kept results of one crate, as a copy has it."""
+    """Holds the kept results of one crate, as a copy has it."""
 
     def __init__(self, crate, copy):
         self.path, self.sum = f"{PLACE}/{crate}.json", sum_of(crate, copy, [])
@@ -34,11 +36,12 @@ class Tried:
             return {}
 
     def of(self, path):
-        """What was said of an edit, if it was refused."""
+        """Returns what was said of an edit, if it was refused."""
         return self.lines.get(key_of(path))
 
     def keep(self, path, line):
-        """Keeps what was said of an edit that was refused. (Other runs may do so for the same crate: what one loses is tried again.)"""
+        """Keeps what was said of an edit that was refused. (Other runs may do so for the same
+        crate; what one loses is tried again.)"""
         self.lines[key_of(path)] = line
         os.makedirs(PLACE, exist_ok=True)
         with open(f"{self.path}.{os.getpid()}", "w", encoding="utf-8") as file:
@@ -46,7 +49,7 @@ class Tried:
         os.replace(file.name, self.path)
 
     def forget(self):
-        """Takes away all that was kept of the crate."""
+        """Removes all that was kept of the crate."""
         self.lines = {}
         if os.path.exists(self.path):
             os.remove(self.path)
