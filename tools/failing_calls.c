@@ -1,14 +1,18 @@
-// Beneath ldbtool, by LD_PRELOAD: the call of the system of one number fails with EIO, and all are counted. tools/refusals builds
-// and uses it. Counted are calls that concern files of one folder: by a path in it, or by a descriptor that isn't a standard stream.
+// Beneath ldbtool, by LD_PRELOAD: the call of the system of one number fails with EIO, and all are
+// counted. tools/refusals builds and uses it. Counted are calls that concern files of one folder: by
+// a path in it, or by a descriptor that isn't a standard stream.
 //
-//   REFUSED_NUMBER=N     the Nth call fails and does nothing, none where N is 0
-//   COUNTS_FILE=FILE     has two words of 64 bits: how many calls there were, and how many of them failed. It is mapped, so that
-//                        they stand there however the program ends.
+//   REFUSED_NUMBER=N     the Nth call fails and does nothing, none if N is 0
+//   STOPS=1              that call doesn't fail: the program stops before it by SIGSTOP (tools/turns)
+//   COUNTS_FILE=FILE     has two words of 64 bits: how many calls there were, and how many failed
 //   FOLDER=PATH          the folder
+//
+// COUNTS_FILE is mapped, so that the words are there however the program ends.
 #define _GNU_SOURCE
 #include <dlfcn.h>
 #include <errno.h>
 #include <fcntl.h>
+#include <signal.h>
 #include <stdarg.h>
 #include <stdint.h>
 #include <stdlib.h>
@@ -25,6 +29,7 @@ struct counts {
 // null until the program's own code begins
 static struct counts *counts;
 static uint64_t refused_number;
+static int stops;
 static const char *folder;
 
 __attribute__((constructor)) static void begin(void) {
@@ -37,6 +42,7 @@ __attribute__((constructor)) static void begin(void) {
   if (words == MAP_FAILED) abort();
   close(file);
   refused_number = strtoull(number, NULL, 10);
+  stops = getenv("STOPS") != NULL;
   counts = words;
 }
 
@@ -44,6 +50,10 @@ static int is_refused(void) {
   if (!counts) return 0;
   counts->made += 1;
   if (counts->made != refused_number) return 0;
+  if (stops) {
+    raise(SIGSTOP);
+    return 0;
+  }
   counts->failed += 1;
   errno = EIO;
   return 1;

@@ -1,4 +1,4 @@
--- Which names some calls leave alone, one call behind the other.
+-- Which names some calls leave alone, one call after the other.
 use Rattle.std.proofs.Common.{◌≡◌, ◌⊎◌, inl, inr, ℕ, Bool, true, false, List, [], ◌∷◌, ◌++◌, take, Option, Some, None, cond, is_some, if◌then◌else◌, Result, Ok, Err, OnOk, OnErr, refl, sym, ap, ◌∙◌, append_assoc, append-nil}
 use Rattle.std.specs.Cmp.Lexicographic.{slice_cmp, nat_list_cmp_total}
 use Rattle.std.specs.FinMap.{get, contains_key, get-insert}
@@ -114,7 +114,7 @@ idle_files old new idle = ap (λ (disk : Disk). disk.files) idle.1
 idle_synced : (old new : Facts) → Idles old new → new.synced ≡ old.synced
 idle_synced old new idle = ap (λ (disk : Disk). disk.synced) idle.1
 
--- done or not, it leaves each of the other names where the files say so
+-- done or not, it leaves each of the other names if the files say so
 pub carries_noted : (old new : Facts) (change : Change) (mine : List ℕ → Type 0) → ((q : List ℕ) → (mine q → ⊥) → name_behind change q ≡ Some q) → ((q : List ℕ) → (mine q → ⊥) → contains_key new.files q ≡ contains_key old.files q)
     → ((q : List ℕ) → (mine q → ⊥) → (new.synced q ≡ old.synced q) ⊎ (is_sync change ≡ true)) → Idles old new ⊎ Adds old new change → CarriesBut old new mine
 carries_noted old new change mine stays now synced (inl idle) = carries_same old new mine idle.0 (idle_files old new idle) (idle_synced old new idle)
@@ -126,7 +126,7 @@ carries_noted old new change mine stays now synced (inr adds) = record {
   synced = λ q apart. elim (synced q apart) [ inl same ↦ inl same | inr is ↦ inr (inl is) ];
 }
 
--- an append of as many of these bytes as came behind the file
+-- an append of as many of these bytes as were added to the file
 pub carries_appended : (old new : Facts) (name bytes : List ℕ) (mine : List ℕ → Type 0) → ((q : List ℕ) → contains_key new.files q ≡ contains_key old.files q) → new.synced ≡ old.synced
     → Idles old new ⊎ ((n : ℕ) × Adds old new (Addition name (take n bytes))) → CarriesBut old new mine
 carries_appended old new name bytes mine now synced (inl idle) = carries_noted old new (Addition name bytes) mine (λ q apart. refl) (λ q apart. now q) (λ q apart. inl (ap (λ (s : Synced). s q) synced)) (inl idle)

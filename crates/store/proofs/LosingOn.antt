@@ -1,4 +1,4 @@
--- What a loss of power may leave, moment by moment.
+-- What a power loss may leave, moment by moment.
 use Rattle.std.proofs.Common.{◌<◌, ◌≤◌, ◌≡◌, ◌⊎◌, inl, inr, ℕ, zero, suc, ◌+◌, List, [], ◌∷◌, ◌++◌, length, drop, take, Some, is_some, Result, Ok, Err, OnOk, OnErr, refl, sym, ap, ◌∙◌, subst, append-nil, append_assoc, arith}
 use Rattle.std.proofs.lemmas.Bool.{cases_lt}
 use Rattle.std.proofs.lemmas.List.{append_cancel_left, drop-append-le, drop_all, length-append, take-append-le, take-take, take_all}
@@ -45,12 +45,12 @@ pub goes_noted : (old new : Facts) (change : Change) → Idles old new ⊎ Adds 
 goes_noted old new change (inl idle) = record { more = []; calls = idle.0 ∙ sym (append-nil old.calls); found = idle.1 }
 goes_noted old new change (inr adds) = record { more = record { found = disk_of old; change = change } ∷ []; calls = adds.0; found = refl }
 
--- an append of as many of these bytes as came behind the file
+-- an append of as many of these bytes as were added to the file
 pub goes_appended : (old new : Facts) (name bytes : List ℕ) → Idles old new ⊎ ((n : ℕ) × Adds old new (Addition name (take n bytes))) → GoesOn old new
 goes_appended old new name bytes (inl idle) = goes_noted old new (Addition name bytes) (inl idle)
 goes_appended old new name bytes (inr some) = goes_noted old new (Addition name (take some.0 bytes)) (inr some.1)
 
--- a sync, accepted or refused
+-- a sync, whatever it answered
 pub goes_synced : (old new : Facts) (name : List ℕ) (r : Result (Unit {0}) StoreError) → OnOk r (Adds old new (Sync name)) → OnErr r (new.calls ≡ old.calls) → new.files ≡ old.files → OnErr r (new.synced ≡ old.synced) → GoesOn old new
 goes_synced old new name (Ok x) noted left same synced = goes_noted old new (Sync name) (inr noted)
 goes_synced old new name (Err e) noted left same synced = goes_same old new left same synced
@@ -94,13 +94,13 @@ lost_here facts lost since =
     let disk : disk_before (drop since.0 facts.calls) (disk_of facts) ≡ disk_of facts = ap (λ (calls : List Call). disk_before calls (disk_of facts)) (drop_all since.0 facts.calls least) in
     at_same (take since.0 facts.calls) facts.calls (disk_before (drop since.0 facts.calls) (disk_of facts)) (disk_of facts) lost front disk since.3
 
--- Of a moment in front of the last of them, the disk is the one that a call of theirs found.
+-- At a moment before the last of them, the disk is the one that a call of theirs found.
 disk_front : (first second : List Call) (m : ℕ) (now then : Disk) → m < length first → disk_before (drop m (first ++ second)) now ≡ disk_before (drop m first) then
 disk_front [] second m now then less = absurd (omega (arith, less))
 disk_front (call ∷ first) second zero now then less = refl
 disk_front (call ∷ first) second (suc m) now then less = disk_front first second m now then (omega (arith, less))
 
--- One behind the other. It is enough that the calls go on: what the first of them found isn't asked.
+-- One after the other. It is enough that the calls go on: what the first of them found isn't asked.
 pub loses_both : (a b c : Facts) (more : List Call) (P : Files → Type 0) → c.calls ≡ b.calls ++ more → LosesOnly a b P → LosesOnly b c P → LosesOnly a c P
 loses_both a b c more P calls h k lost since = elim (cases_lt since.0 (moment b)) [
   | inl less ↦
@@ -128,12 +128,12 @@ loses_same a b P calls files synced h lost since =
     let most : since.0 ≤ moment a = omega (arith, within, same) in
     h lost (since.0, since.1, most, earlier a b since.0 lost (goes_same a b calls files synced) most since.3)
 
--- with calls behind that changed nothing
+-- with calls after it that changed nothing
 pub loses_read : (a b c : Facts) (more : List Call) (P : Files → Type 0) → b.calls ≡ a.calls ++ more → c.calls ≡ b.calls → c.files ≡ b.files → c.synced ≡ b.synced → LosesOnly a b P → LosesOnly a c P
 loses_read a b c more P goes calls files synced h =
     loses_both a b c [] P (calls ∙ sym (append-nil b.calls)) h (loses_same b c P calls files synced (loses_later a b more P goes h))
 
--- one call at most: the moment in front of it, and that behind it
+-- one call at most: the moment before it, and that after it
 pub loses_one : (old new : Facts) (P : Files → Type 0) → GoesOn old new → moment new ≤ moment old + 1 → LosesOnly old old P → LosesOnly new new P → LosesOnly old new P
 loses_one old new P goes one before behind lost since = elim (cases_lt (moment old) since.0) [
   | inl less ↦ behind lost (since.0, omega (arith, less, one), since.2, since.3)
@@ -158,11 +158,11 @@ loses_synced old new name P (Err e) noted left same synced before behind = loses
 
 -- ---- an append and its sync
 
--- an append that was refused
+-- an append that failed
 pub puts_begun : (old new : Facts) (name bytes : List ℕ) → new.synced ≡ old.synced → Idles old new ⊎ ((n : ℕ) × Adds old new (Addition name (take n bytes))) → PutsSynced old new name bytes
 puts_begun old new name bytes kept noted = record { mid = new; noted = noted; kept = kept; done = inl (refl, refl) }
 
--- one that was accepted, and its sync, accepted or refused
+-- one that succeeded, and its sync, whatever it answered
 pub puts_by : (old mid new : Facts) (name bytes : List ℕ) (r : Result (Unit {0}) StoreError) → mid.synced ≡ old.synced → Idles old mid ⊎ ((n : ℕ) × Adds old mid (Addition name (take n bytes)))
     → OnOk r (Adds mid new (Sync name)) → OnErr r (new.calls ≡ mid.calls) → new.files ≡ mid.files → OnOk r (new.synced ≡ with_synced mid.synced name (get mid.files name)) → OnErr r (new.synced ≡ mid.synced) → PutsSynced old new name bytes
 puts_by old mid new name bytes (Ok x) kept noted added left same synced unsynced = record { mid = mid; noted = noted; kept = kept; done = inr (added, synced) }
@@ -178,7 +178,8 @@ puts_calls old new name bytes puts = let all = puts_goes old new name bytes puts
 
 -- ---- the store as it was
 
--- The store as it was at that moment: behind its first so many calls, with the disk that the next one found.
+-- The store as it was at that moment: after its first so many calls, with the disk that the next
+-- one found.
 abbrev pub facts_at : Facts → ℕ → Facts
 facts_at facts m = record facts { files = (disk_before (drop m facts.calls) (disk_of facts)).files; synced = (disk_before (drop m facts.calls) (disk_of facts)).synced; calls = take m facts.calls }
 
@@ -192,7 +193,7 @@ loses_at old new P each lost since =
     let disk : disk_before (drop m new.calls) (disk_of new) ≡ disk_before (drop (moment then) then.calls) (disk_of then) = ap (λ (calls : List Call). disk_before calls (disk_of then)) (sym rest) in
     each m since.1 since.2 lost (moment then, omega arith, omega arith, at_same (take m new.calls) (take (moment then) then.calls) (disk_before (drop m new.calls) (disk_of new)) (disk_before (drop (moment then) then.calls) (disk_of then)) lost front disk since.3)
 
--- behind these calls, some of the others
+-- after these calls, some of the others
 pub take_behind : (a b : List Call) (m : ℕ) → length a ≤ m → (k : ℕ) × (take m (a ++ b) ≡ a ++ take k b) × (drop m (a ++ b) ≡ drop k b)
 take_behind [] b m le = (m, refl, refl)
 take_behind (call ∷ a) b zero le = absurd (omega (arith, le))
@@ -289,7 +290,7 @@ leaves_at old new P m h least =
 
 -- ---- what a stop may leave of an append
 
--- the files in front of it are what a stop may leave of the whole
+-- the files before it are what a stop may leave of the whole
 left_front : (old mid new : Facts) (more : List Call) (P : Files → Type 0) → mid.calls ≡ old.calls ++ more → GoesOn mid new → LeavesOnly old new P → P mid.files
 left_front old mid new more P calls goes h =
     let rest : drop (moment mid) new.calls ≡ goes.more = ap (drop (moment mid)) goes.calls ∙ drop-append_seam mid.calls goes.more in
@@ -324,7 +325,7 @@ put_more mid then new name call first (inr done) =
     let last : Call = record { found = disk_of then; change = Sync name } in
     (last ∷ [], done.0.0 ∙ ap (λ (cs : List Call). cs ++ last ∷ []) first ∙ append_assoc mid.calls (call ∷ []) (last ∷ []))
 
--- Of the bytes that came, each beginning behind the file is what a stop of the whole may leave.
+-- With each beginning of the bytes that were added, the file is what a stop of the whole may leave.
 pub puts_left : (old mid new : Facts) (more : List Call) (name bytes : List ℕ) (P : Files → Type 0) → mid.calls ≡ old.calls ++ more → PutsSynced mid new name bytes → LeavesOnly old new P
     → (came : List ℕ) × PutsSynced mid new name came × ((files : Files) → AppendsBeginning mid.files files name came → P files)
 puts_left old mid new more name bytes P calls puts h = at puts.noted

@@ -1,4 +1,4 @@
--- The files that a map from names to contents stands for, through a look-up and a change of the map.
+-- The files that a map from names to contents stands for, after a look-up and a change of the map.
 use Rattle.std.proofs.Common.{◌≡◌, ℕ, Bool, true, false, cond, List, [], ◌∷◌, map, Option, Some, None, is_some, is_none, not, String, string_bytes, refl, sym, ap, subst, T, ◌∙◌}
 use Rattle.std.specs.declared.alloc.Global.{Global}
 use Rattle.std.specs.BTreeMap.{BTreeMap, get_by_text, Updates, UpdatesBy, IsOrdered, IsClone}
@@ -121,7 +121,7 @@ exchanged false b x y z apart = refl
 pub same_name : (q name : List ℕ) → eq_by_cmp (slice_cmp nat_cmp) q name ≡ true → q ≡ name
 same_name q name is = slice_cmp-IsAntisymmetric nat_cmp-IsAntisymmetric q name (equal_of (slice_cmp nat_cmp q name) is)
 
--- a file that is put before another is taken away
+-- a file that is put before another is removed
 pub remove-insert : (files : Files) (from to file : List ℕ) → (from ≡ to → ⊥) → remove (insert files to file) from ≡ insert (remove files from) to file
 remove-insert files from to file apart = same_files _ _ (λ q.
     get-remove nat_list_cmp_total (insert files to file) from q
@@ -174,7 +174,7 @@ pub some_with : (o : Option (List ℕ)) → is_some o ≡ true → (x : List ℕ
 some_with None e = absurd (true≢false (sym e))
 some_with (Some x) e = (x, refl)
 
--- a file keeps its content where another name is taken away
+-- a file keeps its content if another name is removed
 pub get-remove_other : (files : Files) (from to : List ℕ) → (from ≡ to → ⊥) → get (remove files from) to ≡ get files to
 get-remove_other files from to apart = get-remove nat_list_cmp_total files from to ∙ other (eq_by_cmp (slice_cmp nat_cmp) to from) (λ same. apart (sym (same_name to from same)))
   where
@@ -222,7 +222,7 @@ moves_other files new from to present apart false there moves =
           ∙ insert_twice (remove files from) to [] found.0,
     )
 
--- a file that takes the place of another, which was made where it was missing
+-- a file that replaces another, which was made if it was missing
 pub renames_other : (files new : Files) (from to : List ℕ) → is_some (get files from) ≡ true → (from ≡ to → ⊥) → Moves (made_if_missing files to) new from to → Renames files new from to
 renames_other files new from to present apart moves = moves_other files new from to present apart (is_some (get files to)) refl moves
 
@@ -245,7 +245,7 @@ same_entries (e ∷ es) (f ∷ fs) h =
 pub files-clone : (m n : Tree) → IsClone (λ s t. string_bytes t ≡ string_bytes s) (λ v w. w ≡ v) m n → files_of n.entries ≡ files_of m.entries
 files-clone m n h = ap from_entries (same_entries m.entries n.entries h)
 
--- ---- a file that was made where it was missing
+-- ---- a file that was made if it was missing
 
 made_at : (b : Bool) (files : Files) (to : List ℕ) → is_some (get files to) ≡ b → is_some (get (cond b files (insert files to [])) to) ≡ true
 made_at true files to is = is
@@ -334,7 +334,7 @@ held_at m name held is = (get-files_of m name ∙ ap (option_map content_of) (sy
 pub held_by_key : (name : List ℕ) (k : String Global) (m : Tree) (held : Option MemFile) → string_bytes k ≡ name → held ≡ tree.get string_cmp m k → Holds (record { files = files_of m.entries; synced = synced_of m.entries }) name held
 held_by_key name k m held is old = held_at m name held (old ∙ ap (get_by_text m) is)
 
--- what is synced of a file stays where another is taken away
+-- what is synced of a file stays if another is removed
 pub synced_other : (m n : Tree) (from to : List ℕ) → (from ≡ to → ⊥) → Changed from m n None → synced_of m.entries to ≡ synced_of n.entries to
 synced_other m n from to apart u = sym (ap (λ (s : Synced). s to) (synced-change from m n None u) ∙ other (eq_by_cmp (slice_cmp nat_cmp) to from) (λ same. apart (sym (same_name to from same))))
   where
@@ -350,7 +350,7 @@ same_eq a b test = same_name a b (is_eq-slice_cmp a b ∙ sym test)
 pub apart_eq : (a b : List ℕ) → false ≡ bytes_eq a b → a ≡ b → ⊥
 apart_eq a b test same = true≢false (sym (test ∙ ap (bytes_eq a) (sym same) ∙ sym (is_eq-slice_cmp a a) ∙ ap is_eq (tied_itself nat_list_cmp_total a)))
 
--- ---- a file that was made where it was missing, and what stood there
+-- ---- a file that was made if it was missing, and what was there
 
 pub none_of_missing : (files : Files) (name : List ℕ) (made : Bool) → made ≡ true → is_some (get files name) ≡ cond made false true → get files name ≡ None
 none_of_missing files name made is test = none_of (get files name) (sym (test ∙ ap (λ b. cond b false true) is))

@@ -1,4 +1,4 @@
--- Which names a loss of power leaves, moment by moment.
+-- Which names a power loss leaves, moment by moment.
 use Rattle.std.proofs.Common.{◌≡◌, inl, inr, ℕ, List, [], ◌∷◌, sym, ◌∙◌, append-nil}
 use Rattle.std.specs.FinMap.{contains_key}
 use Rattle.store.specs.Files.{Facts, Files, Sync, Call, disk_of}
@@ -22,7 +22,7 @@ names_since facts lost q (call ∷ calls) stays (inr later) = names_since facts 
 pub names_here : (facts : Facts) (q : List ℕ) → StaysNamed facts q → LosesOnly facts facts (λ lost. contains_key lost q ≡ contains_key facts.files q)
 names_here facts q stays lost since = names_since facts lost q (behind_sync [] facts.calls) stays (lost_here facts lost since)
 
--- where calls have left it alone since
+-- if calls have left it alone since
 names_then : (old then : Facts) (mine : List ℕ → Type 0) (q : List ℕ) → CarriesBut old then mine → (mine q → ⊥) → StaysNamed old q → LosesOnly then then (IsThereAs old q)
 names_then old then mine q carries apart stays lost since = names_here then q (stays_on old then mine q apart carries stays) lost since ∙ carries.now q apart
 

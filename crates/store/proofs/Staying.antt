@@ -8,7 +8,7 @@ use Rattle.store.specs.Losses.{CarriesBut, HasStayed, HasStayedOrBegun, HasSync,
 use Rattle.store.specs.Stops.{WritesOnly}
 use Rattle.store.proofs.Carrying.{carries_writes}
 
--- ---- calls behind others
+-- ---- calls after others
 
 pub behind_more : (since first second : List Call) → behind_sync since (first ++ second) ≡ behind_sync (behind_sync since first) second
 behind_more since [] second = refl
@@ -123,7 +123,7 @@ begun_stayed (call ∷ calls) there synced q h = (inl h.0, begun_stayed calls th
 pub stays_begins : (facts : Facts) (q : List ℕ) → StaysNamed facts q → StaysOrBegins facts q
 stays_begins facts q h = begun_stayed (behind_sync [] facts.calls) (contains_key facts.files q) (facts.synced q) q h
 
--- ---- behind a sync
+-- ---- after a sync
 
 pub stays_behind : (facts : Facts) (q : List ℕ) → behind_sync [] facts.calls ≡ [] → StaysNamed facts q
 stays_behind facts q none = subst (λ (calls : List Call). HasStayed calls (contains_key facts.files q) q) (sym none) tt
@@ -133,7 +133,7 @@ begins_behind facts q none = stays_begins facts q (stays_behind facts q none)
 
 -- ---- a file that is begun
 
--- the calls in front of it, and it: none found the file
+-- the calls before it, and it: none found the file
 lacked_more : (calls : List Call) (call : Call) (there other : Bool) (none : Type 0) (q : List ℕ) → there ≡ false → none → HasStayed calls there q → contains_key call.found.files q ≡ false → Begun (calls ++ call ∷ []) other none q
 lacked_more [] call there other none q is n h found = (inr (found, n), tt)
 lacked_more (one ∷ calls) call there other none q is n h found = (inr (h.0.1 ∙ is, n), lacked_more calls call there other none q is n h.1 found)

@@ -32,7 +32,7 @@ now_left facts t files = (inl refl, λ left. none_since facts files (since_then 
 pub stays : (facts : Facts) (P : Files → Type 0) → P facts.files → LeavesOnly facts facts P
 stays facts P now = record { more = []; calls = sym (append-nil facts.calls); during = λ files none. absurd none; now = now }
 
--- ---- some calls one behind the other
+-- ---- some calls one after the other
 
 pub leaves_both : (old mid new : Facts) (P : Files → Type 0) → LeavesOnly old mid P → LeavesOnly mid new P → LeavesOnly old new P
 leaves_both old mid new P a b = record {
@@ -187,7 +187,7 @@ others_noted old new change mine names kept synced (inr adds) = record {
   synced = synced;
 }
 
--- an append of as many of these bytes as came behind the file
+-- an append of as many of these bytes as were added to the file
 pub others_appended : (old new : Facts) (name bytes : List ℕ) → ((files : Files) → AppendsBeginning old.files files name bytes → KeepsBut old.files (λ (q : List ℕ). q ≡ name) files)
     → ((q : List ℕ) → (q ≡ name → ⊥) → new.synced q ≡ old.synced q) → Idles old new ⊎ ((n : ℕ) × Adds old new (Addition name (take n bytes))) → WritesOnly old new (λ (q : List ℕ). q ≡ name)
 unfolding leaves_so append_left leaves_same
@@ -217,7 +217,7 @@ others_synced old new name (Err e) noted left same synced = record {
   synced = synced;
 }
 
--- with calls that only read in front or behind
+-- with calls that only read before or after
 pub others_read : (a b c : Facts) (mine : List ℕ → Type 0) → WritesOnly a b mine → c.calls ≡ b.calls → c.files ≡ b.files → c.synced ≡ b.synced → WritesOnly a c mine
 others_read a b c mine h calls files synced = others_both a b c mine h (others_same b c mine calls files synced)
 

@@ -1,4 +1,5 @@
--- What is known of a store that fails where it is told to: what is known of the store within, and how far its plan has come.
+-- What is known of a store that fails as planned: what is known of the store within, and how far
+-- its plan has come.
 use Rattle.std.specs.Prelude.{◌≡◌, ◌≢◌, ◌+◌, ◌-◌, ◌^◌, ℕ, Bool, true, false, Option, Some, None, IsTrue, Result, Ok, Err, OnOk, min, nat_eq, if◌then◌else◌}
 use Rattle.std.specs.Option.{option_and_then}
 use Rattle.store.specs.declared.error.StoreError.{StoreError}
@@ -19,8 +20,9 @@ use Rattle.store.specs.MemFacts.{mem_facts}
 abbrev pub fault_facts : FaultStore → Facts
 fault_facts store = mem_facts store.inner
 
--- What is known of its files, how many calls were counted, which fault is planned, whether the process has stopped, and whether
--- the call that the fault hit was done before it was answered by a failure, wholly or in part.
+-- What is known of its files, how many calls were counted, which fault is planned, whether the
+-- process has stopped, and whether the call that the fault hit was done, wholly or in part, before
+-- it failed.
 pub record Standing : Type 0 where
   pub facts : Facts
   pub calls : ℕ
@@ -31,15 +33,15 @@ pub record Standing : Type 0 where
 abbrev pub standing_of : FaultStore → Standing
 standing_of store = record { facts = mem_facts store.inner; calls = store.calls; plan = store.plan; stopped = store.stopped; acted = store.acted }
 
--- the fault, if it hits the first call behind so many
+-- the fault, if it hits the first call after so many
 abbrev pub due_behind : Plan → ℕ → Option Fault
 due_behind plan calls = if nat_eq (plan.call - calls) 1 then Some plan.fault else None
 
--- The fault of the call that comes now. Behind a stop no call is done.
+-- The fault of the call that comes now. After a stop no call is done.
 abbrev pub due : Standing → Option Fault
 due standing = if standing.stopped then Some (Fail Before) else option_and_then (λ (plan : Plan). due_behind plan standing.calls) standing.plan
 
--- how far a call comes by its fault, or none, where it is done as ever
+-- how far a call gets by its fault, or none, if it is done as usual
 abbrev pub extent_of : Option Fault → Option Extent
 extent_of None = None
 extent_of (Some (Fail extent)) = Some extent
@@ -68,7 +70,7 @@ is_denial (Some (Fail extent)) = false
 is_denial (Some Deny) = true
 is_denial (Some (Stop extent)) = false
 
--- A call is counted, and the process stops in it where that is planned.
+-- A call is counted, and the process stops in it if that is planned.
 pub record Proceeds (old new : Standing) : Type 0 where
   pub calls : new.calls ≡ min (old.calls + 1) (2 ^ 64 - 1)
   pub plan : new.plan ≡ old.plan
@@ -92,7 +94,8 @@ pub record IsRefused {T : Type 0} (old new : Standing) (result : Result T StoreE
   pub acted : new.acted ≡ old.acted
   pub refuses : IsTrue new.facts.faithful → Refuses old.facts new.facts result
 
--- A call whose answer the fault takes: it is never Ok, and where the store within has done it (`acted`), it is done so far.
+-- A call whose answer the fault replaces: it is never Ok, and if the store within has done it
+-- (`acted`), it is done so far.
 pub record IsCut {T : Type 0} (old new : Standing) (result : Result T StoreError) (change : Disk → Disk → Type 0) : Type 0 where
   pub answer : IsTrue new.facts.faithful → OnOk result ⊥
   pub done : old.acted ≡ false → new.acted ≡ true → IsTrue new.facts.faithful → Cuts old.facts new.facts result change
@@ -115,7 +118,8 @@ abbrev pub MeetsReading : {T : Type 0} → Option Extent → Standing → Standi
 MeetsReading None old new result = new.acted ≡ old.acted
 MeetsReading (Some extent) old new result = IsRefused old new result
 
--- What a failure leaves that is counted, by its answer. Behind the last that can be counted it isn't Device.
+-- What a failure leaves that is counted, by its answer. If no further one can be counted it isn't
+-- Device.
 pub record Fails (old new : Facts) (call : Failed) (error : Option StoreError) : Type 0 where
   pub same : new ≡ record old { failures = new.failures; write_failures = new.write_failures; faithful = new.faithful }
   pub faithful : IsTrue new.faithful → IsTrue old.faithful × (error ≡ Some Device)

@@ -1,4 +1,5 @@
--- What is known of a store over a folder: its counts, whether it holds the lock, and nothing of the files.
+-- What is known of a store over a folder: its counts, whether it holds the lock, and nothing of the
+-- files.
 use Rattle.std.specs.Prelude.{Bool, false, None, []}
 use Rattle.std.specs.FinMap.{empty}
 use Rattle.std.specs.declared.io.ErrorKind.{ErrorKind}

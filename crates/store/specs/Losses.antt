@@ -1,11 +1,12 @@
--- What a loss of power may leave of a directory. What is assumed of the device (ext4 and XFS with ordered data):
+-- What a power loss may leave of a directory. What is assumed of the disk (ext4 and XFS with
+-- ordered data):
 --
--- - An accepted sync keeps what the file held then, and all names as they were then.
--- - Behind that, names reach the device in the order of the calls that changed them: those of one moment are found, and no
---   mixture of two.
--- - Of each file a beginning of what was added to it is found, with what of it was synced at least. A file keeps to that
---   whatever name it has by then: what was moved is found under its old name or the new one, what was taken away, or replaced,
---   may be back.
+-- - After a sync succeeds, what the file held then is on disk, and all names as they were then.
+-- - Later names reach the disk in the order of the calls that changed them: those of one moment are
+--   found, and no mixture of two.
+-- - Of each file a beginning of what was added to it is found, with what of it was synced at least.
+-- That holds whatever name the file has by then: what was moved is found under its old name or the
+-- new one, and what was removed or replaced may be back.
 -- - Nothing else stands in a file: no byte that was never written to it.
 use Rattle.std.specs.Prelude.{◌≡◌, ◌⊎◌, ◌≤◌, ℕ, Bool, true, false, List, [], ◌∷◌, ◌++◌, Option, Some, None, length, take, drop, if◌then◌else◌}
 use Rattle.std.specs.Cmp.Lexicographic.{slice_cmp}
@@ -20,7 +21,7 @@ use Rattle.store.specs.Stops.{moment}
 abbrev pub same_name : List ℕ → List ℕ → Bool
 same_name a b = eq_by_cmp (slice_cmp nat_cmp) a b
 
--- The name with which the file of this name goes on, or none, where it was taken away or replaced.
+-- The name with which the file of this name goes on, or none, if it was removed or replaced.
 abbrev pub name_behind : Change → List ℕ → Option (List ℕ)
 name_behind (Creation name) q = if same_name q name then None else Some q
 name_behind (Addition name bytes) q = Some q
@@ -29,7 +30,7 @@ name_behind (Move from to) q = if same_name q from then Some to else (if same_na
 name_behind (Removal name) q = if same_name q name then None else Some q
 name_behind LockFile q = Some q
 
--- What the file that had this name in front of these calls held last, and what of it was synced.
+-- What the file that had this name before these calls held last, and what of it was synced.
 abbrev pub held_last : List Call → Disk → List ℕ → Option (List ℕ) × Option (List ℕ)
 held_last [] now q = (get now.files q, now.synced q)
 held_last (call ∷ calls) now q = option_map_or (held_last calls now) (name_behind call.change q) (get call.found.files q, call.found.synced q)
@@ -42,11 +43,12 @@ BeginsWith bytes front = (rest : List ℕ) × (bytes ≡ front ++ rest)
 abbrev pub SyncsBeginning : Facts → List ℕ → Type 0
 SyncsBeginning facts name = (held synced : List ℕ) → get facts.files name ≡ Some held → facts.synced name ≡ Some synced → BeginsWith held synced
 
--- So it is with every file.
+-- The same holds for every file.
 abbrev pub SyncsBeginnings : Facts → Type 0
 SyncsBeginnings facts = (name : List ℕ) → SyncsBeginning facts name
 
--- The names are those of a moment, behind which these calls were made. Each file has a beginning of what it held last, with what of it was synced at least.
+-- The names are those of a moment, after which these calls were made. Each file has a beginning of
+-- what it held last, with what of it was synced at least.
 pub record IsLost (at : Files) (since : List Call) (now : Disk) (lost : Files) : Type 0 where
   pub names : (q : List ℕ) → contains_key lost q ≡ contains_key at q
   pub beginning : (q bytes : List ℕ) → get lost q ≡ Some bytes → (held : List ℕ) × ((held_last since now q).0 ≡ Some held) × BeginsWith held bytes
@@ -61,7 +63,7 @@ abbrev pub is_sync : Change → Bool
 is_sync (Sync name) = true
 is_sync _ = false
 
--- the calls behind the last sync, where these came before
+-- the calls after the last sync, if these came before
 abbrev pub behind_sync : List Call → List Call → List Call
 behind_sync since [] = since
 behind_sync since (call ∷ calls) = behind_sync (if is_sync call.change then [] else since ++ call ∷ []) calls
@@ -71,7 +73,7 @@ abbrev pub disk_before : List Call → Disk → Disk
 disk_before [] now = now
 disk_before (call ∷ calls) now = call.found
 
--- A loss of power at some moment since that one may have left these files.
+-- A power loss at some moment since that one may have left these files.
 abbrev pub Lost : Facts → ℕ → Files → Type 0
 Lost facts t lost = (m : ℕ) × (t ≤ m) × (m ≤ length facts.calls)
     × IsLostSince (behind_sync [] (take m facts.calls)) (disk_before (drop m facts.calls) (disk_of facts)) lost
@@ -87,7 +89,8 @@ abbrev pub HasSync : List Call → Type 0
 HasSync [] = ⊥
 HasSync (call ∷ calls) = (is_sync call.change ≡ true) ⊎ HasSync calls
 
--- Since old each file but those of these names kept its name, and none came or went; what is synced of it is the same, if no sync came since.
+-- Since old each file but those of these names kept its name, and none came or went. What is
+-- synced of it is the same, if no sync came since.
 pub record CarriesBut (old new : Facts) (mine : List ℕ → Type 0) : Type 0 where
   pub more : List Call
   pub calls : new.calls ≡ old.calls ++ more
@@ -102,7 +105,8 @@ pub record CarriesBut (old new : Facts) (mine : List ℕ → Type 0) : Type 0 wh
 abbrev pub IsCarriedBy : List Call → List ℕ → Type 0
 IsCarriedBy calls name = AllByRecursion (λ (call : Call). name_behind call.change name ≡ Some name) calls
 
--- Since the first of these calls the file of this name has its name, or there was none, just as there is one now or not.
+-- Since the first of these calls the file of this name has its name, or there was none, just as
+-- there is one now or not.
 abbrev pub HasStayed : List Call → Bool → List ℕ → Type 0
 HasStayed [] there name = Unit {0}
 HasStayed (call ∷ calls) there name = (IsCarriedBy (call ∷ calls) name × (contains_key call.found.files name ≡ there)) × HasStayed calls there name
@@ -123,11 +127,11 @@ StaysOrBegins facts name = HasStayedOrBegun (behind_sync [] facts.calls) (contai
 
 -- ---- at any moment since
 
--- A loss of power at any moment since old leaves files that have P. It composes where the calls go on.
+-- A power loss at any moment since old leaves files that have P. It composes as the calls go on.
 abbrev pub LosesOnly : Facts → Facts → (Files → Type 0) → Type 0
 LosesOnly old new P = (lost : Files) → Lost new (moment old) lost → P lost
 
--- Bytes were put behind the file, as many as came, and then it was synced, or that was refused.
+-- Some of these bytes were added to the file, and then it was synced, or the sync failed.
 pub record PutsSynced (old new : Facts) (name bytes : List ℕ) : Type 0 where
   pub mid : Facts
   pub noted : Idles old mid ⊎ ((n : ℕ) × Adds old mid (Addition name (take n bytes)))

@@ -8,7 +8,8 @@ use Rattle.store.specs.MemStore.{files_of, synced_of}
 abbrev pub disk_in : MemStore → Disk
 disk_in store = record { files = files_of store.files.entries; synced = synced_of store.files.entries }
 
--- It is faithful while it can count a further failure: a call that must answer Device raises the count, and the counter has 64 bits.
+-- It is faithful while it can count a further failure: a call that must answer Device raises the
+-- count, and the counter has 64 bits.
 abbrev pub mem_facts : MemStore → Facts
 mem_facts store = record {
   files = files_of store.files.entries;

@@ -62,7 +62,7 @@ change_of (Moved from to held) now = Move (string_bytes from) (string_bytes to)
 change_of (Taken name file) now = Removal (string_bytes name)
 change_of Locked now = LockFile
 
--- the calls by which the files came to be as they are now, where the last is kept first
+-- the calls by which the files came to be as they are now, of which the last is kept first
 abbrev pub calls_before : List Past → Disk → List Call
 calls_before [] now = []
 calls_before (past ∷ older) now = calls_before older (undone past now) ++ (record { found = undone past now; change = change_of past now }) ∷ []

@@ -1,11 +1,11 @@
--- What a stop of the process may leave of a directory. It frees the lock.
+-- What a process crash may leave of a directory. A stop is such a crash. It frees the lock.
 use Rattle.std.specs.Prelude.{◌≡◌, ◌⊎◌, ◌+◌, ◌++◌, ℕ, true, List, [], ◌∷◌, length, drop}
 use Rattle.std.specs.FinMap.{get}
 use Rattle.std.specs.List.{AllByRecursion}
 use Rattle.store.specs.Files.{Facts, Files, Disk, disk_of, Call, Change, Creation, Addition, Sync, Move, Removal, LockFile, AppendsBeginning, Does}
 
--- What a stop in the middle of a call may leave: it was done wholly or not at all, or a beginning of its bytes stands
--- behind the file.
+-- What a stop in the middle of a call may leave: it was done wholly or not at all, or a beginning
+-- of its bytes was added to the file.
 abbrev pub MayLeave : Change → Files → Files → Type 0
 MayLeave (Addition name bytes) old new = AppendsBeginning old new name bytes
 MayLeave (Creation name) old new = (new ≡ old) ⊎ Does (Creation name) old new
@@ -23,7 +23,8 @@ LeftDuring (call ∷ calls) files = MayLeave call.change call.found.files files 
 abbrev pub moment : Facts → ℕ
 moment facts = length facts.calls
 
--- A stop at some moment since that one may have left these files: now, or in the middle of a call since.
+-- A stop at some moment since that one may have left these files: now, or in the middle of a call
+-- since.
 abbrev pub Left : Facts → ℕ → Files → Type 0
 Left facts t files = (files ≡ facts.files) ⊎ LeftDuring (drop t facts.calls) files
 
@@ -34,7 +35,8 @@ pub record LeavesOnly (old new : Facts) (P : Files → Type 0) : Type 0 where
   pub during : (files : Files) → LeftDuring more files → P files
   pub now : P new.files
 
--- A stop is a failure that nobody saw: what is known of a store whose files are these, and which has failed once more in a write.
+-- A stop is a failure that nobody saw: what is known of a store whose files are these, and which
+-- has failed once more in a write.
 abbrev pub stopped_at : Facts → Files → Facts
 stopped_at facts files = record facts { files = files; faithful = true; failures = facts.failures + 1; write_failures = facts.write_failures + 1 }
 
@@ -42,7 +44,7 @@ stopped_at facts files = record facts { files = files; faithful = true; failures
 abbrev pub KeepsBut : Files → (List ℕ → Type 0) → Files → Type 0
 KeepsBut old mine new = (name : List ℕ) → (mine name → ⊥) → get new name ≡ get old name
 
--- what a call makes, adds to, syncs, moves or takes away
+-- what a call makes, adds to, syncs, moves or removes
 abbrev pub IsNamedIn : Change → List ℕ → Type 0
 IsNamedIn (Creation name) q = q ≡ name
 IsNamedIn (Addition name bytes) q = q ≡ name
@@ -51,12 +53,14 @@ IsNamedIn (Move from to) q = (q ≡ from) ⊎ (q ≡ to)
 IsNamedIn (Removal name) q = q ≡ name
 IsNamedIn LockFile q = ⊥
 
--- Each of these calls names files of these names alone, and finds the others, and what is synced of them, as they are on this disk.
+-- Each of these calls names files of these names alone. It finds the others, and what is synced of
+-- them, as they are on this disk.
 abbrev pub TouchOnly : List Call → Disk → (List ℕ → Type 0) → Type 0
 TouchOnly calls disk mine = AllByRecursion (λ (call : Call).
     ((q : List ℕ) → IsNamedIn call.change q → mine q) × ((q : List ℕ) → (mine q → ⊥) → (get call.found.files q ≡ get disk.files q) × (call.found.synced q ≡ disk.synced q))) calls
 
--- Since old only files of these names were written, and synced: at any moment the others are as they were.
+-- Since old only files of these names were written, and synced: at any moment the others are as
+-- they were.
 pub record WritesOnly (old new : Facts) (mine : List ℕ → Type 0) : Type 0 where
   pub leaves : LeavesOnly old new (KeepsBut old.files mine)
   pub calls : TouchOnly leaves.more (disk_of old) mine
@@ -72,6 +76,6 @@ LeftNowLaw = (facts : Facts) (t : ℕ) (files : Files) → Left facts t facts.fi
 abbrev pub LeftSinceLaw : Type 0
 LeftSinceLaw = (old new : Facts) (more : List Call) (files : Files) → new.calls ≡ old.calls ++ more → Left new (moment old) files → (files ≡ new.files) ⊎ LeftDuring more files
 
--- In the middle of some calls or of those behind them.
+-- In the middle of some calls or of those after them.
 abbrev pub LeftBothLaw : Type 0
 LeftBothLaw = (first second : List Call) (files : Files) → LeftDuring (first ++ second) files → LeftDuring first files ⊎ LeftDuring second files

@@ -12,6 +12,6 @@ bytes_of name = take name.length name.bytes
 abbrev pub NamesFile : List ℕ → Trouble → Type 0
 NamesFile name trouble = bytes_of trouble.name ≡ take 48 name
 
--- A note, as it is taken behind another one: it is that one's count, and one more.
+-- A note, as it is taken after another one: it has that one's count, and one more.
 abbrev pub behind : Trouble → Trouble → Trouble
 behind trouble last = record trouble { count = wrapping_add last.count 1 }

@@ -4,7 +4,7 @@ ghost use Rattle.store.specs.Counted.{with_failed};
 
 use crate::StoreError;
 
-/// Which call of a store failed.
+/// Says which call of a store failed.
 #[derive(Clone, Copy, Debug)]
 pub enum Failed {
     /// One that makes a file, adds to one, syncs one or renames one.
@@ -13,7 +13,8 @@ pub enum Failed {
     Other,
 }
 
-/// How often a store failed, how often by a call that writes, and how often it denied the lock.
+/// Counts how often a store failed, how often in a call that writes, and how often it denied the
+/// lock.
 #[derive(Drop)]
 pub struct Counters {
     failures: u64,
@@ -23,7 +24,7 @@ pub struct Counters {
 }
 
 impl Counters {
-    /// Nothing has failed yet.
+    /// Returns counts of 0: nothing has failed yet.
     pub fn new() -> Self
         ensures failures { result.failures ≡ 0 }
         ensures writes { result.write_failures ≡ 0 }
@@ -36,22 +37,22 @@ impl Counters {
         }
     }
 
-    /// How often a call failed.
+    /// Returns how often a call failed.
     pub fn failures(&self) -> u64
         ensures { result ≡ self.now.failures }
     {
         self.failures
     }
 
-    /// How often one failed that writes.
+    /// Returns how often a call failed that writes.
     pub fn write_failures(&self) -> u64
         ensures { result ≡ self.now.write_failures }
     {
         self.write_failures
     }
 
-    /// Answers Device for a call that failed, and counts it. A failure behind the last one that the counter can
-    /// hold, the one of number 2^64 - 1, is answered by Ok in its place, since Device would promise a count.
+    /// Answers Device for a call that failed, and counts it. Once the counter is full, at 2^64 -
+    /// 1, it answers Ok instead, since Device would promise a count.
     pub fn fail(&mut self, call: Failed) -> Result<(), StoreError>
         ensures denials { self.new.denials ≡ self.old.denials }
         ensures counted { OnErr result (self.new.failures ≡ self.old.failures + 1) }
@@ -73,7 +74,7 @@ impl Counters {
         }
     }
 
-    /// Denies the lock and counts it, or answers Memory where no further denial can be counted.
+    /// Denies the lock and counts it, or answers Memory if no further denial can be counted.
     pub fn deny(&mut self) -> Result<bool, StoreError>
         ensures failures { self.new.failures ≡ self.old.failures }
         ensures writes { self.new.write_failures ≡ self.old.write_failures }

@@ -8,7 +8,7 @@ use std::alloc::{AllocError, AllocFailed};
 use std::io;
 use thiserror::Error;
 
-/// Why a store refused a call.
+/// Says why a store refused a call.
 #[derive(Clone, Copy, Debug, PartialEq, Eq, Error)]
 pub enum StoreError {
     /// Out of memory. The call did nothing.
@@ -17,7 +17,8 @@ pub enum StoreError {
     /// No file has this name. Only `len`, `read_at` and `read_into` answer so.
     #[error("there is no such file")]
     Missing,
-    /// The device failed, and the store has counted it. A call that changes files may have been done in part.
+    /// The device failed, and the store has counted it. A call that changes files may have been
+    /// done in part.
     #[error("the device failed")]
     Device,
 }
@@ -38,7 +39,7 @@ impl<T: Drop> From<AllocFailed<T>> for StoreError {
     }
 }
 
-/// What an error of the system is, in a call that has changed nothing.
+/// Tells what an error of the system is, in a call that has changed nothing.
 impl From<io::Error> for StoreError {
     ghost from_gives = { λ error refusal. refusal ≡ refusal_of (error_kind error) };
 

@@ -10,39 +10,40 @@ use crate::counters::Failed;
 use crate::{MemStore, Store, StoreError, Trouble};
 use std::alloc::Global;
 
-/// How far a call comes that a fault hits.
+/// Says how far a call gets that a fault hits.
 #[derive(Clone, Copy, Debug)]
 pub enum Extent {
     /// Nothing of it is done.
     Before,
-    /// It is done. What a call of a store that fails may not have done isn't done here either: nothing is synced, and the lock
-    /// is neither taken nor given back, though its file is made.
+    /// It is done, as far as a failed call of a store may be. Nothing is synced, and the lock is
+    /// neither taken nor released, though its file is made.
     After,
-    /// Of an append so many first bytes are added, at most all. Of any other call nothing is done.
+    /// An append adds this many first bytes, at most all. Any other call does nothing.
     Part(usize),
 }
 
 /// A failure that a test asks for.
 #[derive(Clone, Copy, Debug)]
 pub enum Fault {
-    /// The call comes so far, and answers Device.
+    /// The call gets so far, and answers Device.
     Fail(Extent),
-    /// A lock is denied. Any other call is done as ever.
+    /// A lock is denied. Any other call is done as usual.
     Deny,
-    /// The process stops in the call, which comes so far. It and every later one answer Device, and these do nothing.
+    /// The process stops in the call, which gets so far. It and every later call answer Device,
+    /// and the later ones do nothing.
     Stop(Extent),
 }
 
-/// Which call a fault hits: the one of this number, where the first is 1.
+/// Says which call a fault hits: the one of this number, counted from 1.
 #[derive(Clone, Copy, Debug)]
 pub struct Plan {
-    /// The number of the call. There is none of number 0.
+    /// The number of the call. No call has number 0.
     pub call: u64,
     /// What comes of it.
     pub fault: Fault,
 }
 
-// How far a call comes that is done wholly or not at all.
+// How far a call gets that is done wholly or not at all.
 enum Way {
     // It is done, and its answer is the store's.
     Whole,
@@ -52,8 +53,9 @@ enum Way {
     Lost,
 }
 
-/// A store in memory, whose calls are counted, and of which one fails as it is planned. It is faithful as long as the store
-/// within is. A call that the store within refuses, where the fault would have it done, is answered as that one does.
+/// Keeps files in memory, counts its calls, and fails one of them as planned. It is faithful as
+/// long as the store within is. If the fault lets a call be done and the store within refuses it,
+/// the answer is that store's.
 #[derive(Drop)]
 pub struct FaultStore {
     inner: MemStore,
@@ -64,7 +66,7 @@ pub struct FaultStore {
 }
 
 impl FaultStore {
-    /// A store with these files, whose calls are counted from here on.
+    /// Returns a store with these files, whose calls are counted from here on.
     pub fn new(inner: MemStore, plan: Option<Plan>) -> Self
         ensures { standing_of result ≡ record { facts = mem_facts inner; calls = 0; plan = plan; stopped = false; acted = false } }
     {
@@ -77,28 +79,28 @@ impl FaultStore {
         }
     }
 
-    /// How many calls there were so far, to place a fault behind them.
+    /// Returns how many calls there were so far, to place a fault after them.
     pub fn calls(&self) -> u64
         ensures { result ≡ (standing_of self.now).calls }
     {
         self.calls
     }
 
-    /// Whether the call that the fault hit was done before it was answered by a failure, wholly or in part.
+    /// Says whether the call that the fault hit was done, wholly or in part, before it failed.
     pub fn acted(&self) -> bool
         ensures { result ≡ (standing_of self.now).acted }
     {
         self.acted
     }
 
-    /// The files as they are now.
+    /// Returns the files as they are now.
     pub fn into_inner(self) -> MemStore
         ensures { mem_facts result ≡ fault_facts self }
     {
         self.inner
     }
 
-    /// What another process finds behind this one: the files as they are now, in a copy, and the lock free.
+    /// Returns what another process finds after this one: a copy of the files, with the lock free.
     pub fn remains(&self) -> Result<MemStore, StoreError>
         ensures copied { IfOk result (λ copy. mem_facts copy ≡ record (fault_facts self.now) { calls = []; faithful = true; locked = false; failures = 0; write_failures = 0; denials = 0 }) }
         ensures memory { IfErr result (λ error. error ≡ StoreError.Memory) }
@@ -131,7 +133,7 @@ impl FaultStore {
         }
     }
 
-    // Counts a call, and answers how far it comes by its fault, or None where it is done as ever.
+    // Counts a call, and answers how far it gets by its fault. None: it is done as usual.
     fn next(&mut self) -> Option<Extent>
         ensures extent { result ≡ next_extent (standing_of self.old) }
         ensures store { self.new ≡ record self.old { calls = self.new.calls; stopped = self.new.stopped } }
@@ -164,7 +166,8 @@ impl FaultStore {
         }
     }
 
-    // Answers Device for a call that isn't done, and counts it. Behind the last failure that can be counted it answers Ok.
+    // Answers Device for a call that isn't done, and counts it. If no further failure can be
+    // counted it answers Ok.
     fn fail(&mut self, call: Failed) -> Result<(), StoreError>
         ensures store { self.new ≡ record self.old { inner = self.new.inner } }
         ensures fails { Fails (fault_facts self.old) (fault_facts self.new) call (error_of result) }
@@ -173,7 +176,7 @@ impl FaultStore {
         self.inner.fail(call)
     }
 
-    // Answers Device for a call that was done, as far as the fault lets it come.
+    // Answers Device for a call that was done, as far as the fault lets it get.
     fn act(&mut self, call: Failed) -> Result<(), StoreError>
         ensures store { self.new ≡ record self.old { inner = self.new.inner; acted = true } }
         ensures fails { Fails (fault_facts self.old) (fault_facts self.new) call (error_of result) }
@@ -183,7 +186,8 @@ impl FaultStore {
         self.fail(call)
     }
 
-    // Device, which is counted, or Memory behind the last failure that can be counted; of a call that writes nothing.
+    // Device, which is counted, or Memory if no further failure can be: of a call that writes
+    // nothing.
     fn failure(&mut self) -> StoreError
         ensures store { self.new ≡ record self.old { inner = self.new.inner } }
         ensures fails { Fails (fault_facts self.old) (fault_facts self.new) Failed.Other (Some result) }
@@ -196,7 +200,7 @@ impl FaultStore {
 }
 
 impl Plan {
-    // The fault, if it hits the call behind so many.
+    // The fault, if it hits the call after so many.
     fn due_behind(self, calls: u64) -> Option<Fault>
         ensures { result ≡ due_behind self calls }
     {
@@ -473,7 +477,7 @@ impl Store for FaultStore {
         match self.next() {
             None => self.inner.unlock(),
             Some(_) => {
-                // An answer of Ok, where no further failure can be counted, says that the lock is free.
+                // Ok, if no further failure can be counted, says that the lock is free.
                 self.fail(Failed::Other)?;
                 self.inner.unlock()
             }

@@ -6,28 +6,45 @@ ghost use Rattle.store.specs.FileFacts.{counted_facts};
 ghost use Rattle.store.specs.Calls.{Counts};
 
 use crate::counters::{Counters, Failed};
-use crate::failure::Failure;
+use crate::failure::{Failure, Unlisted};
 use crate::folder::Folder;
-use crate::{Store, StoreError, Trouble, Why};
+use crate::{ShortName, Store, StoreError, Trouble, Why};
 use std::alloc::Global;
 
-/// The plain files of a folder of the system. It promises what is promised of every store, and nothing of the
-/// bytes: the device may return what was never written.
+/// Keeps its files in a folder of the system. It promises what every store promises, and nothing of
+/// the bytes: the device may return what was never written.
 ///
-/// A file that a call names stays open, so that a later call on it is one call of the system; a read across its end is
-/// two, and so is one of more than 1 MiB, which asks for the length before it takes memory. At most 800 files
-/// stay open. `sync` is `fdatasync` of that file, and behind `create`, `rename` or `remove` the next one first makes
-/// the folder's entries durable.
+/// **Files kept open.** A file that a call names stays open, so a later call on it is one call of
+/// the system. A read across its end is two. So is a read of more than 1 MiB, which asks for the
+/// length before it takes memory. At most 800 files stay open, and those used longest ago are
+/// closed for the next. If the system has no room for one more file, all are closed, the call is
+/// tried once more, and half as many stay open from then on.
 ///
-/// Only plain files count, and links to one. `list` answers Device at a name that isn't UTF-8. The lock is one of
-/// `fcntl` on `LOCK`, as LevelDB's own (`LockOrUnlock` in util/env_posix.cc), so the two keep each other out; a store
-/// that is dropped gives it back. It is taken by `sqlite_std_file`, the one crate of the toolchain that takes such a
-/// lock and may be used here: this makes an empty `LOCK-wal` beside it and takes it away again, which no other call does.
-/// A file of that name that has bytes stays as it is; where a folder or a link has it, the lock can't be taken.
+/// **Other processes** may change the folder while this store doesn't hold the lock. So no file
+/// stays open past `unlock`, past a `lock` that takes the lock, or past a `list` without the lock.
 ///
-/// An error of the system is Memory only where it is one and nothing was changed. Where 2^64 - 1 failures were counted
-/// no further one can be, and Device would promise it: such a failure is answered by Memory, or by Ok where that may
-/// not be, as by `sync`.
+/// **Names.** Only plain files count, and links to one under a database's names. `list` neither
+/// follows a link with another name nor lists it. It answers Device if a name isn't UTF-8, or if
+/// what has a database's name can't be looked at, as a link to itself. If a folder, a pipe or a
+/// link to nothing has a numbered name, `list` has the temporary file of that number, so that no
+/// file is given this number. `remove` of that one answers Ok.
+///
+/// **Links.** A table is read through a link. `create`, `append` and `lock` follow none: they
+/// answer Device, so nothing outside the folder is made, extended or emptied. `rename` and
+/// `remove` act on the link itself.
+///
+/// **Syncs.** `sync` is `fdatasync` of that file. The first one after `create`, `rename`, `remove`
+/// or a new lock makes the folder's entries durable before that.
+///
+/// **The lock** is one of `fcntl` on `LOCK`, as LevelDB's own (`LockOrUnlock` in
+/// util/env_posix.cc), so the two keep each other out. A store that is dropped releases it. It is
+/// taken by `sqlite_std_file`, the one crate of the toolchain that takes such a lock and may be
+/// used. That crate makes an empty `LOCK-wal` beside it, which is removed again. A file of that
+/// name that has bytes stays as it is. If a folder or a link has it, the lock can't be taken.
+///
+/// **Errors.** An error of the system is Memory only if it is one and nothing was changed. Once
+/// 2^64 - 1 failures were counted, Device would promise one more. Such a failure is answered by
+/// Memory, or by Ok if Memory may not be the answer, as for `sync`.
 #[derive(Drop)]
 pub struct FileStore {
     folder: Folder,
@@ -37,8 +54,8 @@ pub struct FileStore {
 }
 
 impl FileStore {
-    /// The files of a folder that exists. Missing where nothing is at the path, and Device where something else than
-    /// a folder is there, or one that this process may not open.
+    /// Opens a folder that exists. Missing if nothing is at the path. Device if something else
+    /// than a folder is there, or one that this process may not open.
     pub fn open(rt: &HostRuntime, folder: &str) -> Result<FileStore, StoreError>
         ensures { IfOk result (λ store. counted_facts store.locked store.counters ≡ record { files = empty; synced = λ name. None; calls = []; faithful = false; locked = false; failures = 0; write_failures = 0; denials = 0 }) }
     {
@@ -71,9 +88,9 @@ impl Store for FileStore {
     fn list(&mut self, alloc: Global) -> Result<Vec<String>, StoreError> {
         match self.folder.list(alloc) {
             Ok(names) => Ok(names),
-            Err(failure) => {
+            Err(Unlisted { failure, name }) => {
                 let error = changing(failure.error);
-                self.keep(why_unlisted(failure), "", error, failure);
+                self.keep_at(why_unlisted(failure), name, error, failure);
                 Err(refused(&mut self.counters, Failed::Other, error))
             }
         }
@@ -207,18 +224,28 @@ impl FileStore {
         ensures locked { self.new.locked ≡ self.old.locked }
         ensures counters { self.new.counters ≡ self.old.counters }
     {
+        self.keep_at(why, ShortName::of(name), error, failure);
+    }
+
+    // The same, by the first bytes of the name.
+    fn keep_at(&mut self, why: Why, name: ShortName, error: StoreError, failure: Failure)
+        ensures locked { self.new.locked ≡ self.old.locked }
+        ensures counters { self.new.counters ≡ self.old.counters }
+    {
         if error == StoreError::Device {
+            let why = failure.why.unwrap_or(why);
             let code = failure.code;
             let trouble = Trouble {
                 code,
-                ..Trouble::of(why, name)
+                name,
+                ..Trouble::of(why, "")
             };
             self.noted = trouble.behind(self.noted);
         }
     }
 }
 
-// Why a folder wasn't listed: where the system told nothing, one of its names isn't UTF-8.
+// Why a folder wasn't listed: if the system gave no number, one of its names isn't UTF-8.
 fn why_unlisted(failure: Failure) -> Why {
     match failure.code {
         Some(_) => Why::List,
@@ -237,7 +264,8 @@ fn changing(error: StoreError) -> StoreError
     }
 }
 
-// Counts an error that is Device. Where no further failure can be counted, the answer is Memory in its place.
+// Counts an error that is Device. If no further failure can be counted, the answer is Memory
+// instead.
 fn refused(counters: &mut Counters, call: Failed, error: StoreError) -> StoreError
     ensures denials { counters.new.denials ≡ counters.old.denials }
     ensures device { result ≡ StoreError.Device → counters.new.failures ≡ counters.old.failures + 1 }

@@ -1,9 +1,9 @@
-//! What a job is lent: its inputs are read from it, and it has the store to which the outputs are written.
+//! What a job borrows: it reads its inputs from it, and writes its outputs to the store of it.
 
 ghost use Rattle.std.specs.Prelude.{◌≡◌, ℕ};
 
-/// A source of cursors that has a store, and may keep more beside it, as caches: whoever writes new files is lent the store
-/// alone, and leaves the rest.
+/// Gives cursors and has a store, beside which it may keep more, as caches. Whoever writes new
+/// files borrows the store alone, and leaves the rest as it is.
 pub trait HasStore<S> {
     ghost use Rattle.std.specs.Borrow.{sem, Lends};
 
@@ -16,7 +16,7 @@ pub trait HasStore<S> {
     /// Something is kept beside the store of the table of this number.
     ghost gathers: { Self → ℕ → Type 0 };
 
-    /// Its store.
+    /// Returns its store.
     fn store_mut(&mut self) -> &mut S
         ensures* lends { sem 𝓛 (Lends Self.row S.row self.entry result (with_store self.entry.now)) }
         ensures value { result.now ≡ store_of self.old };

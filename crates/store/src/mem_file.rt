@@ -5,8 +5,8 @@ ghost use Rattle.store.specs.MemFile.{Content, HasFront, synced_bytes};
 use std::alloc::{AllocError, Global};
 use std::marker::Model;
 
-/// The bytes of a file, and how many of them were there when it was synced. Bytes are only added, so the front is still
-/// what was synced.
+/// Holds the bytes of a file, and how many of them were there when it was synced. Bytes are only
+/// added, so its first bytes are still what was synced.
 #[derive(Drop)]
 pub struct MemFile {
     bytes: Vec<u8>,
@@ -22,7 +22,7 @@ impl Model for MemFile {
 }
 
 impl MemFile {
-    /// An empty file, never synced.
+    /// Returns an empty file, never synced.
     pub fn new(alloc: Global) -> Self
         ensures { result ≡ record { bytes = []; synced = None } }
     {
@@ -32,14 +32,14 @@ impl MemFile {
         }
     }
 
-    /// Its bytes.
+    /// Returns its bytes.
     pub fn bytes(&self) -> &[u8]
         ensures { result.now ≡ self.now.bytes }
     {
         self.bytes.as_slice()
     }
 
-    /// How many of its bytes are synced, if it ever was.
+    /// Returns how many of its bytes are synced, if it ever was.
     pub fn synced_length(&self) -> Option<usize>
         ensures { self.now.synced ≡ result }
     {
@@ -56,7 +56,7 @@ impl MemFile {
         Ok(())
     }
 
-    /// Takes what it has now for synced.
+    /// Marks all of its bytes as synced.
     pub fn sync(&mut self)
         ensures { self.new ≡ record self.old { synced = Some (length self.old.bytes) } }
     {

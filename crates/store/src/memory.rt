@@ -19,17 +19,18 @@ use std::mem;
 
 const LOCK: &str = "LOCK";
 
-/// Files in memory. It is faithful, and a call that it refuses has changed nothing.
+/// Keeps files in memory. It is faithful, and a call that it refuses has changed nothing.
 ///
-/// One bound on that: a call that must answer Device also raises the count of failures, and the counter has
-/// 64 bits. From the failure of number 2^64 - 1 on nothing more is claimed of what the store returns.
+/// One bound on that: a call that must answer Device also raises the count of failures, and the
+/// counter has 64 bits. From failure number 2^64 - 1 on nothing is claimed of what it returns.
 ///
-/// It keeps of each call that changes something what undoes it, so that its facts have what each of them found. No byte is
-/// copied for that: an append keeps the length that the file had, and a file that was removed or replaced is itself kept, so
-/// that its bytes stay in memory as long as the store. A further call takes a copy of its names. A `copy` begins anew.
+/// Each call that changes something leaves what undoes it, so that the facts have what each call
+/// found. No byte is copied for that. An append keeps the length that the file had. A file that was
+/// removed or replaced is itself kept, so its bytes stay in memory as long as the store. Each call
+/// takes a copy of its names. A `copy` begins anew.
 ///
-/// Room for what undoes a call is made before it acts. Where there is none it answers Memory, but for `sync` and `remove`,
-/// which never do: they have failed, and have changed nothing.
+/// Room for the undo is made before a call acts. If there is none the call answers Memory. Only
+/// `sync` and `remove` never do so: they have failed, and have changed nothing.
 #[derive(Drop)]
 pub struct MemStore {
     alloc: Global,
@@ -44,7 +45,7 @@ impl MemStore {
     ghost use Rattle.store.specs.MemFacts.{mem_facts};
     ghost use Rattle.std.specs.FinMap.{empty};
 
-    /// An empty directory.
+    /// Returns an empty directory.
     pub fn new(alloc: Global) -> Self
         ensures { mem_facts result ≡ record { files = empty; synced = λ name. None; calls = []; faithful = true; locked = false; failures = 0; write_failures = 0; denials = 0 } }
     {
@@ -58,8 +59,8 @@ impl MemStore {
         }
     }
 
-    /// A directory with a copy of each file, synced as it is here, its lock free and its counts 0. Nothing of the calls
-    /// made here comes along, nor of the files that they took away.
+    /// Returns a directory with a copy of each file, synced as it is here, its lock free and its
+    /// counts 0. Neither the calls made here come along nor the files that they removed.
     pub fn copy(&self) -> Result<MemStore, StoreError>
         ensures copied { IfOk result (λ copy. mem_facts copy ≡ record (mem_facts self.now) { calls = []; faithful = true; locked = false; failures = 0; write_failures = 0; denials = 0 }) }
         ensures memory { IfErr result (λ error. error ≡ StoreError.Memory) }
@@ -82,7 +83,8 @@ impl MemStore {
         }
     }
 
-    // Answers Device for a call that failed, and counts it: behind the last failure that can be counted it answers Ok.
+    // Answers Device for a call that failed, and counts it. If no further failure can be counted
+    // it answers Ok.
     pub(crate) fn fail(&mut self, call: Failed) -> Result<(), StoreError>
         ensures files { self.new ≡ record self.old { counters = self.new.counters } }
         ensures denials { self.new.counters.denials ≡ self.old.counters.denials }
@@ -95,7 +97,7 @@ impl MemStore {
         self.counters.fail(call)
     }
 
-    // Denies the lock and counts it, or answers Memory where no further denial can be counted.
+    // Denies the lock and counts it, or answers Memory if no further denial can be counted.
     pub(crate) fn deny(&mut self) -> Result<bool, StoreError>
         ensures files { self.new ≡ record self.old { counters = self.new.counters } }
         ensures failures { self.new.counters.failures ≡ self.old.counters.failures }
@@ -106,7 +108,7 @@ impl MemStore {
         self.counters.deny()
     }
 
-    // Makes the lock's file where it is missing, and leaves the lock as it is.
+    // Makes the lock's file if it is missing, and leaves the lock as it is.
     pub(crate) fn make_lock_file(&mut self) -> Result<(), StoreError>
         ensures rest { self.new ≡ record self.old { files = self.new.files; past = self.new.past } }
         ensures ok { OnOk result (Locks (mem_facts self.old).files (mem_facts self.new).files) }
@@ -221,7 +223,7 @@ impl Store for MemStore {
         }
         let known = room_for(&mut self.past, self.alloc, from)?;
         let known_to = String::from_str(self.alloc, to)?;
-        // A file to replace comes first: behind it nothing more can be refused for want of memory.
+        // A file to replace comes first: after it nothing more can run out of memory.
         let made = make_if_missing(&mut self.files, self.alloc, to)?;
         let held = move_file(&mut self.files, from, to);
         let held = unless(made, held);
@@ -282,7 +284,7 @@ fn put(
     Ok(held)
 }
 
-// Makes an empty file where there is none, and answers whether it did.
+// Makes an empty file if there is none, and answers whether it did.
 fn make_if_missing(
     files: &mut BTreeMap<String, MemFile>,
     alloc: Global,
@@ -300,7 +302,7 @@ fn make_if_missing(
     Ok(true)
 }
 
-// Takes a file from its name and puts it in the place of another, which it answers.
+// Moves a file to another name, and answers the file that this replaced.
 fn move_file(files: &mut BTreeMap<String, MemFile>, from: &str, to: &str) -> Option<MemFile>
     ensures moved { (bytes : List ℕ) → map.get (files_of files.old.entries) from.now ≡ Some bytes → IsSome (map.get (files_of files.old.entries) to.now)
         → from.now ≢ to.now → files_of files.new.entries ≡ insert (map.remove (files_of files.old.entries) from.now) to.now bytes }
@@ -365,7 +367,7 @@ fn sync_file(files: &mut BTreeMap<String, MemFile>, name: &str) -> Option<usize>
     }
 }
 
-// The bytes from an offset on, `count` of them or up to the end, in place of what is in `room`.
+// The bytes from an offset on, `count` of them or up to the end. They replace those of `room`.
 fn part(room: Vec<u8>, file: &[u8], offset: usize, count: usize) -> Result<Vec<u8>, AllocError>
     ensures { IfOk result (λ read. read.items ≡ take count (drop offset file.now)) }
 {

@@ -4,24 +4,24 @@ ghost use Rattle.std.specs.Prelude.{◌≡◌, ◌<◌, ◌++◌, ◌∷◌, [],
 use crate::mem_file::MemFile;
 use std::alloc::{AllocError, Global};
 
-/// A call that changed something, or synced a file, by what it takes to undo it. Lengths are in bytes.
+/// Says how to undo a call that changed something or synced a file. Lengths are in bytes.
 #[derive(Drop)]
 pub enum Past {
-    /// A file of this name was made, in place of one that had it.
+    /// A file of this name was made, and replaced the one that had it.
     Made(String, Option<MemFile>),
     /// Bytes were added to a file of this name that had so many.
     Grown(String, usize),
-    /// A file of this name was synced, of which so many bytes were before, or which never had been.
+    /// A file of this name was synced, which had so many synced bytes before, or never had been.
     Kept(String, Option<usize>),
-    /// A file of the first name was given the second, in place of one that had that.
+    /// A file of the first name was given the second, and replaced the one that had it.
     Moved(String, String, Option<MemFile>),
-    /// A file of this name was taken away.
+    /// A file of this name was removed.
     Taken(String, MemFile),
-    /// The lock's file was made where it was missing.
+    /// The lock's file was made, which was missing.
     Locked,
 }
 
-/// Makes room for one more, and a copy of the name that it is to have.
+/// Makes room for one more, and returns a copy of the name that it is to have.
 pub fn room_for(past: &mut Vec<Past>, alloc: Global, name: &str) -> Result<String, AllocError>
     ensures past { past.new.items ≡ past.old.items }
     ensures room { OnOk result (vec_len past.new < vec_capacity past.new) }

@@ -10,37 +10,45 @@ ghost use Rattle.store.specs.Calls.{Counts, FailsNoWrite, FailsAsWrite, Keeps, K
 use crate::{StoreError, Trouble};
 use std::alloc::Global;
 
-/// Named files, as a database keeps them in one directory: the calls of LevelDB's `Env` (include/leveldb/env.h) that it
-/// needs. A name is any text.
+/// Keeps named files as a database needs them in one directory. Its calls are those of LevelDB's
+/// `Env` (include/leveldb/env.h) that a database makes. A name is any text.
 ///
-/// While a store is faithful it returns what was written, and its calls do what their clauses say: an Ok is exact, and
-/// files of other names stay. Of one that isn't, only the clauses that don't ask for it hold.
+/// While a store is faithful it returns what was written, and its calls do what their clauses say:
+/// an Ok is exact, and files of other names stay. For a store that isn't faithful only those
+/// clauses hold that don't ask for it.
 ///
-/// Of its errors Memory changes nothing, and Device is counted. Only `len`, `read_at` and `read_into` answer Missing; `sync`,
-/// `remove` and `unlock` never answer Memory. A call that needs a file and changes it, or syncs it, answers Device where
-/// that file is missing.
+/// Memory changes nothing, and Device is counted. Only `len`, `read_at` and `read_into` answer
+/// Missing. `sync`, `remove` and `unlock` never answer Memory. A call that changes or syncs a file
+/// answers Device if that file is missing.
 ///
-/// What is synced is what the device was asked to keep and said that it did: of each name what its file held then, which a
-/// rename carries along. LevelDB relies on one thing more, and so do we: that a rename comes to the device no later than
-/// what is synced behind it.
+/// A file is synced if a sync of it succeeded: the bytes that it had then are on disk. A rename
+/// carries them along. LevelDB relies on one thing more, and so does a database over this store: a
+/// rename reaches the disk no later than what is synced after it.
+///
+/// Other processes may change the files while this store doesn't hold the lock. So a store over
+/// files that others can reach keeps no file and no fact about one past `unlock`. When `lock`
+/// takes the lock, the store sees the files as they are then. `list` without the lock does the
+/// same, since every read-only use begins with it.
 pub trait Store {
-    /// The files, what of them is synced, the calls that changed something, whether it was faithful so far, whether it
-    /// holds the lock, and its counts of failures, of failed writes and of denied locks.
+    /// The files, what of them is synced, the calls that changed something, whether it was faithful
+    /// so far, whether it holds the lock, and how often it failed, failed in a write, or denied the
+    /// lock.
     ghost facts: { Self → Facts };
 
     /// The note that it took last.
     ghost told: { Self → Trouble };
 
-    /// How often a call failed so far: the failures of the facts, without a call of the device.
+    /// Returns how often a call failed so far: the failures of the facts. Asks the device nothing.
     fn failures(&self) -> u64
         ensures { result ≡ (facts self.now).failures };
 
-    /// How often a call failed so far that makes a file, adds to one, syncs one or renames one: the failed writes of the facts, as
-    /// above.
+    /// Returns how often a call failed so far that makes, extends, syncs or renames a file: the
+    /// failed writes of the facts. Asks the device nothing.
     fn write_failures(&self) -> u64
         ensures { result ≡ (facts self.now).write_failures };
 
-    /// The names of all files, each once, in no order.
+    /// Returns the names of all files, each once, in no order. Without the lock it sees the files
+    /// as they are now, whatever the store knew of them.
     fn list(&mut self, alloc: Global) -> Result<Vec<String>, StoreError>
         ensures counts { Counts (facts self.old) (facts self.new) result }
         ensures writes { FailsNoWrite (facts self.old) (facts self.new) }
@@ -53,7 +61,7 @@ pub trait Store {
         ensures calls { KeepsCalls (facts self.old) (facts self.new) }
         ensures missing { result ≢ Err StoreError.Missing };
 
-    /// The length of a file in bytes.
+    /// Returns the length of a file in bytes, or Missing.
     fn len(&mut self, name: &str) -> Result<u64, StoreError>
         ensures counts { Counts (facts self.old) (facts self.new) result }
         ensures writes { FailsNoWrite (facts self.old) (facts self.new) }
@@ -67,7 +75,8 @@ pub trait Store {
         ensures synced { KeepsSynced (facts self.old) (facts self.new) }
         ensures calls { KeepsCalls (facts self.old) (facts self.new) };
 
-    /// The bytes of a file from `offset` on, `count` of them or up to its end.
+    /// Returns `count` bytes of a file from `offset` on, or fewer if it ends before. Missing if no
+    /// file has the name.
     fn read_at(
         &mut self,
         alloc: Global,
@@ -87,7 +96,8 @@ pub trait Store {
         ensures synced { KeepsSynced (facts self.old) (facts self.new) }
         ensures calls { KeepsCalls (facts self.old) (facts self.new) };
 
-    /// The same, in the memory of `room` where the bytes fit: its own are dropped. A store that can't do so lets it go.
+    /// Does the same as `read_at`, in the memory of `room` if the bytes fit. What `room` held is
+    /// dropped. A store that can't reuse the memory drops it too.
     fn read_into(
         &mut self,
         alloc: Global,
@@ -112,7 +122,8 @@ pub trait Store {
         self.read_at(alloc, name, offset, count)
     }
 
-    /// Makes an empty file, or empties the one that is there. A call that fails with Device may have done so.
+    /// Makes an empty file, or empties the one that is there. A call that fails with Device may
+    /// have done so.
     fn create(&mut self, name: &str) -> Result<(), StoreError>
         ensures counts { Counts (facts self.old) (facts self.new) result }
         ensures writes { FailsAsWrite (facts self.old) (facts self.new) }
@@ -126,7 +137,8 @@ pub trait Store {
         ensures calls { Notes (facts self.old) (facts self.new) result (Creation name.now) }
         ensures missing { result ≢ Err StoreError.Missing };
 
-    /// Adds bytes at the end of a file. A call that fails with Device may have added a beginning of them.
+    /// Adds bytes at the end of a file. A call that fails with Device may have added some first
+    /// ones.
     fn append(&mut self, name: &str, bytes: &[u8]) -> Result<(), StoreError>
         ensures counts { Counts (facts self.old) (facts self.new) result }
         ensures writes { FailsAsWrite (facts self.old) (facts self.new) }
@@ -140,7 +152,7 @@ pub trait Store {
         ensures absent { IsTrue (facts self.new).faithful → map.get (facts self.old).files name.now ≡ None → result ≡ Err StoreError.Device }
         ensures missing { result ≢ Err StoreError.Missing };
 
-    /// Has the device keep what was written to a file, and the names as they are now.
+    /// Syncs a file: what it holds is on disk afterwards, and the names as they are now.
     fn sync(&mut self, name: &str) -> Result<(), StoreError>
         ensures counts { Counts (facts self.old) (facts self.new) result }
         ensures writes { FailsAsWrite (facts self.old) (facts self.new) }
@@ -155,7 +167,8 @@ pub trait Store {
         ensures missing { result ≢ Err StoreError.Missing }
         ensures memory { result ≢ Err StoreError.Memory };
 
-    /// Gives a file another name, in place of a file that has it. A call that fails with Device may have done so.
+    /// Gives a file another name, and replaces a file that has it. A call that fails with Device
+    /// may have done so.
     fn rename(&mut self, from: &str, to: &str) -> Result<(), StoreError>
         ensures counts { Counts (facts self.old) (facts self.new) result }
         ensures writes { FailsAsWrite (facts self.old) (facts self.new) }
@@ -170,7 +183,7 @@ pub trait Store {
         ensures absent { IsTrue (facts self.new).faithful → map.get (facts self.old).files from.now ≡ None → result ≡ Err StoreError.Device }
         ensures missing { result ≢ Err StoreError.Missing };
 
-    /// Takes a file away. A call that fails with Device may have done so.
+    /// Removes a file. A call that fails with Device may have done so.
     fn remove(&mut self, name: &str) -> Result<(), StoreError>
         ensures counts { Counts (facts self.old) (facts self.new) result }
         ensures writes { FailsNoWrite (facts self.old) (facts self.new) }
@@ -186,9 +199,10 @@ pub trait Store {
         ensures missing { result ≢ Err StoreError.Missing }
         ensures memory { result ≢ Err StoreError.Memory };
 
-    /// Takes the lock of the directory, and makes the empty file `LOCK` where it is missing, as LevelDB does.
-    /// `false` is a denial, which is counted: the lock is held, here or elsewhere. Whether it fails or denies, it may
-    /// have made the file.
+    /// Takes the lock of the directory, and makes the empty file `LOCK` if it is missing, as
+    /// LevelDB does. `false` is a denial, which is counted: somebody holds the lock, perhaps this
+    /// store. A call that fails or denies may have made the file. Once the lock is taken the store
+    /// sees the files as they are now.
     fn lock(&mut self) -> Result<bool, StoreError>
         ensures counts { Counts (facts self.old) (facts self.new) result }
         ensures writes { FailsNoWrite (facts self.old) (facts self.new) }
@@ -202,7 +216,7 @@ pub trait Store {
         ensures held { IsTrue (facts self.new).faithful → result ≡ Ok true → Locks (facts self.old).files (facts self.new).files }
         ensures missing { result ≢ Err StoreError.Missing };
 
-    /// Gives the lock back, where it is held here.
+    /// Releases the lock, if this store holds it. Others may change the files from then on.
     fn unlock(&mut self) -> Result<(), StoreError>
         ensures counts { Counts (facts self.old) (facts self.new) result }
         ensures writes { FailsNoWrite (facts self.old) (facts self.new) }
@@ -215,16 +229,16 @@ pub trait Store {
         ensures missing { result ≢ Err StoreError.Missing }
         ensures memory { result ≢ Err StoreError.Memory };
 
-    /// Takes a note of why a call is refused, in the place of an earlier one. Nothing of the files changes.
+    /// Takes a note of why a call is refused, and drops an earlier one. No file changes.
     fn note(&mut self, trouble: Trouble)
         ensures same { facts self.new ≡ facts self.old }
         ensures told { told self.new ≡ behind trouble (told self.old) };
 
-    /// The note that was taken last, whether or not a call was refused since.
+    /// Returns the note that was taken last, whether or not a call was refused since.
     fn noted(&self) -> Trouble
         ensures { result ≡ told self.now };
 
-    /// Law: what is synced of a file is a beginning of what it holds. It does nothing.
+    /// States a law: what is synced of a file is a beginning of what it holds. Does nothing.
     fn synced_law(&self)
         ensures { SyncsBeginnings (facts self.now) };
 }

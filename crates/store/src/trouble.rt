@@ -5,33 +5,36 @@ ghost use Rattle.store.specs.Troubles.{behind, bytes_of, NamesFile};
 
 use std::fmt;
 
-/// What was wrong as a call was refused, as far as whoever refused it knew: in which file, where in it, what was found and what was wanted.
-/// It takes no memory. As text it is all of that but the file's name.
+/// Says what was wrong as a call was refused, as far as whoever refused it knew: in which file,
+/// where in it, what was found and what was wanted. It takes no memory. As text it is all of that
+/// but the file's name.
 #[derive(Clone, Copy, Debug, PartialEq, Eq)]
 pub struct Trouble {
     /// What it was.
     pub why: Why,
-    /// The file's name, or none where it is the folder as a whole.
+    /// The file's name, or none if it is the folder as a whole.
     pub name: ShortName,
-    /// Where in the file it is: the byte at which the block, fragment or record begins, or from which a call read.
+    /// Where in the file it is: the byte at which the block, fragment or record begins, or from
+    /// which a call read.
     pub at: Option<u64>,
     /// What was found, by `why`: a checksum, a length, a type, a sequence.
     pub found: Option<u64>,
-    /// What was wanted in its place.
+    /// What was wanted instead.
     pub wanted: Option<u64>,
-    /// The system's number of the error, where a call of the system failed.
+    /// The system's number of the error, if a call of the system failed.
     pub code: Option<i32>,
-    /// How many notes the store had taken before this one, so that a new one is told from an old one.
+    /// How many notes the store had taken before this one, so that a new one is told from an old
+    /// one.
     pub count: u64,
 }
 
 impl Trouble {
-    /// No trouble.
+    /// Returns no trouble.
     pub fn none() -> Self {
         Trouble::of(Why::Nothing, "")
     }
 
-    /// This, of a file of this name.
+    /// Returns this trouble of a file of this name.
     pub fn of(why: Why, name: &str) -> Self
         ensures names { NamesFile name.now result }
         ensures at { result.at ≡ None }
@@ -47,7 +50,7 @@ impl Trouble {
         }
     }
 
-    /// The same, as the note that is taken behind another one.
+    /// Returns the same, as the note that is taken after another one.
     pub fn behind(self, last: Trouble) -> Self
         ensures { result ≡ behind self last }
     {
@@ -57,7 +60,7 @@ impl Trouble {
         }
     }
 
-    /// The same, at this byte of the file.
+    /// Returns the same, at this byte of the file.
     pub fn at(self, at: u64) -> Self
         ensures { result ≡ record self { at = Some at } }
     {
@@ -67,7 +70,7 @@ impl Trouble {
         }
     }
 
-    /// The same, so many bytes further on.
+    /// Returns the same, so many bytes further on.
     pub fn moved(self, offset: u64) -> Self
         ensures { result.name ≡ self.name }
     {
@@ -78,7 +81,7 @@ impl Trouble {
         Trouble { at, ..self }
     }
 
-    /// The same, where this was found and that was wanted.
+    /// Returns the same, with what was found and what was wanted.
     pub fn found(self, found: u64, wanted: u64) -> Self
         ensures { result ≡ record self { found = Some found; wanted = Some wanted } }
     {
@@ -90,10 +93,10 @@ impl Trouble {
     }
 }
 
-/// How many bytes of a name are kept. Those of a database have 29 at most.
+// How many bytes of a name are kept. Those of a database have 29 at most.
 const KEPT: usize = 48;
 
-/// The first 48 bytes of a file's name.
+/// Holds the first 48 bytes of a file's name.
 #[derive(Clone, Copy, Debug, PartialEq, Eq)]
 pub struct ShortName {
     bytes: [u8; KEPT],
@@ -101,7 +104,7 @@ pub struct ShortName {
 }
 
 impl ShortName {
-    /// The front of this name.
+    /// Returns the first bytes of this name.
     pub fn of(name: &str) -> Self
         ensures { bytes_of result ≡ take 48 name.now }
     {
@@ -112,7 +115,7 @@ impl ShortName {
         ShortName { bytes, length }
     }
 
-    /// The bytes of it that are kept.
+    /// Returns the bytes that are kept.
     pub fn as_bytes(&self) -> &[u8]
         ensures { result.now ≡ bytes_of self.now }
     {
@@ -123,7 +126,7 @@ impl ShortName {
     }
 }
 
-/// Bytes outside of ' '..'~' are shown as `\xNN`: a name may come from outside.
+/// Shows bytes outside of ' '..'~' as `\xNN`: a name may come from outside.
 impl fmt::Display for ShortName {
     fn fmt<W: fmt::Write>(&self, f: &mut fmt::Formatter<W>) -> fmt::Result {
         for byte in self.as_bytes() {
@@ -140,7 +143,7 @@ fn write_escaped<W: fmt::Write>(f: &mut fmt::Formatter<W>, byte: u8) -> fmt::Res
     f.write_char(char::from(byte))
 }
 
-/// What may be wrong. Where numbers stand beside it, `found` and `wanted` are said here.
+/// Says what may be wrong. If numbers go with it, its line says what `found` and `wanted` are.
 #[derive(Clone, Copy, Debug, PartialEq, Eq)]
 pub enum Why {
     /// Nothing was.
@@ -151,7 +154,7 @@ pub enum Why {
     List,
     /// A name in the folder isn't UTF-8.
     NotUtf8,
-    /// The file's length can't be had.
+    /// The file's length isn't available.
     Length,
     /// It can't be read.
     Read,
@@ -167,11 +170,17 @@ pub enum Why {
     Remove,
     /// The lock can't be asked for.
     Lock,
+    /// A link has its name, and nothing is written through one.
+    Link,
+    /// Another file has its name than as the folder was listed.
+    Replaced,
+    /// It was there as the folder was listed, and isn't any more.
+    Gone,
 
     // A file.
     /// It isn't there.
     Missing,
-    /// It has another length than it is to have: both.
+    /// Its length isn't the one that the MANIFEST says: both.
     FileLength,
     /// It ends in the middle of what is read: how many bytes came, and how many were to come.
     Cut,
@@ -183,11 +192,11 @@ pub enum Why {
     Magic,
     /// No handle of a block stands in the footer where one belongs.
     FooterHandle,
-    /// Other bytes than zeros stand behind the handles of the footer.
+    /// Other bytes than zeros follow the handles of the footer.
     FooterPadding,
     /// A block runs past the end of the file: where both end.
     BlockEnd,
-    /// The checksum of a block's bytes, and the one that stands behind them, both as files have them.
+    /// The checksum of a block's bytes, and the one that follows them, both as files have them.
     BlockChecksum,
     /// A compressed block: its type.
     BlockType,
@@ -205,7 +214,7 @@ pub enum Why {
     Filter,
     /// A key of a block is no internal key.
     KeyKind,
-    /// A key of a block is out of the bounds that the index has for it, or isn't admitted by its filter.
+    /// A key of a block is out of the bounds that the index has for it, or its filter rejects it.
     KeyBound,
     /// The table has no entry.
     NoEntries,
@@ -213,17 +222,17 @@ pub enum Why {
     Span,
     /// An entry is newer than the MANIFEST's last sequence: both.
     Recorded,
-    /// Of one key it has a newer entry than a log or a table has that has to be newer.
+    /// It has a newer entry of a key than a log or a table that must be newer.
     Age,
 
     // A log, or the MANIFEST, which has the form of one.
-    /// The checksum of a fragment's bytes, and the one that stands in front of them, both as files have them.
+    /// The checksum of a fragment's bytes, and the one before them, both as files have them.
     FragmentChecksum,
     /// A fragment runs past its block: its length, and the room that there is.
     FragmentLength,
-    /// There is no such type of a fragment: its type.
+    /// A fragment has an unknown type: its type.
     FragmentType,
-    /// A fragment of this type may not stand behind the one in front: its type.
+    /// A fragment of this type may not follow the one before it: its type.
     FragmentOrder,
     /// Other bytes than zeros stand where no fragment begins.
     Padding,
@@ -233,11 +242,12 @@ pub enum Why {
     Sequence,
     /// A record is no version edit.
     Edit,
-    /// The edits leave no layout: a field is missing, or they take away what isn't there or add what is.
+    /// The edits leave no layout: a field is missing, or they remove what isn't there or add what
+    /// is.
     Edits,
-    /// The keys are in another order than the one that is asked for.
+    /// The keys are in another order than the one that the caller asks for.
     Comparator,
-    /// The number of a table is past what is read.
+    /// The number of a table is greater than any that is read.
     TableNumber,
     /// By the keys of the MANIFEST the table overlaps another one of its level.
     TableOverlap,

@@ -3,7 +3,8 @@
 use crate::{Trouble, Why};
 use std::{fmt, io};
 
-/// What was wrong, and the numbers that tell, without the file's name: as in `block at 8195: checksum 4f1b09aa found, 91c0e3d2 wanted`.
+/// Says what was wrong, with its numbers and without the file's name, as in
+/// `block at 8195: checksum 4f1b09aa found, 91c0e3d2 wanted`.
 impl fmt::Display for Trouble {
     fn fmt<W: fmt::Write>(&self, f: &mut fmt::Formatter<W>) -> fmt::Result {
         write_part(f, self)?;
@@ -13,7 +14,7 @@ impl fmt::Display for Trouble {
     }
 }
 
-// Which part of the file it is, where it is one.
+// Which part of the file it is, if it is one.
 fn write_part<W: fmt::Write>(f: &mut fmt::Formatter<W>, trouble: &Trouble) -> fmt::Result {
     let Some(at) = trouble.at else {
         return Ok(());
@@ -99,6 +100,9 @@ fn words_of(why: Why) -> &'static str {
         Why::Rename => "can't be given its other name",
         Why::Remove => "can't be removed",
         Why::Lock => "can't be locked",
+        Why::Link => "is a symbolic link, and nothing is written through one",
+        Why::Replaced => "was replaced while the directory was read: another process changes it",
+        Why::Gone => "was removed while the directory was read: another process changes it",
         Why::Missing => "isn't there",
         Why::FileLength => "has another length than the MANIFEST says",
         Why::Cut => "ends too soon",

@@ -364,7 +364,9 @@ fn kept_open(rt: &HostRuntime, folder: &str) -> Result<Option<usize>, Fail> {
 fn many_files_stay_readable_and_few_stay_open(rt: HostRuntime) -> Result<(), Fail> {
     let folder = fresh_folder(&rt, "many")?;
     let kept = kept_open(&rt, folder.as_str())?;
-    assert_eq!(rt; kept, Some(KEPT_OPEN + 1), "with the folder's own");
+    // with the folder's own; an eighth is closed at a time
+    let kept = kept.unwrap_or(0);
+    assert!(rt; kept <= KEPT_OPEN + 1 && kept > KEPT_OPEN - KEPT_OPEN / 8 - 1);
     fs::remove_dir_all(&rt, folder.as_str())?;
     Ok(())
 }

@@ -63,7 +63,10 @@ fn is_of_a_call(why: Why) -> bool {
         | Why::Sync
         | Why::Rename
         | Why::Remove
-        | Why::Lock => true,
+        | Why::Lock
+        | Why::Link
+        | Why::Replaced
+        | Why::Gone => true,
         _ => false,
     }
 }
