@@ -7,4 +7,5 @@ pub mod MergeSteps
 pub mod Parts
 pub mod RangeOrder
 pub mod Scan
+pub mod Waiting
 pub mod Walking
