@@ -8,4 +8,5 @@ pub mod MergeSteps
 pub mod Parts
 pub mod RangeOrder
 pub mod Scan
+pub mod Waiting
 pub mod Walking

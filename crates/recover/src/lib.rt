@@ -20,6 +20,7 @@ mod replay;
 mod report;
 mod table_entries;
 mod tables;
+mod waiting;
 mod walking;
 
 pub use checking::check;

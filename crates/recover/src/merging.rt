@@ -6,17 +6,18 @@ ghost use Rattle.ikey.specs.Orders.{order_of};
 ghost use Rattle.ikey.specs.declared.entry.Entry.{Entry};
 ghost use Rattle.recover.specs.internal.Walking.{stamp};
 ghost use Rattle.recover.specs.internal.Merging.{IsNoNewer, IsHeadBefore, IsLeastOf, MayComeNext, BreaksNext, IsEnded, IsPut};
-ghost use Rattle.recover.specs.internal.Merging.{IsLogged, IsOldEntry, IsSooner, IsSoonest, IsWithin, Misplaces};
+ghost use Rattle.recover.specs.internal.Merging.{IsLogged, IsOldEntry, IsWithin, Misplaces};
 
 use crate::comparing::is_in_front;
 use crate::logged::{Logged, is_older};
 use crate::noting::{note_file, note_sequence};
 use crate::report::TableSummary;
 use crate::table_entries::is_same;
+use crate::waiting::{Waiting, by_smallest};
 use crate::walking::{Head, TableWalk};
 use coding::{Damage, DbError, FileKind};
 use edits::PlacedTable;
-use ikey::{InternalKey, KeyOrder, unpack};
+use ikey::{InternalKey, KeyOrder};
 use std::alloc::{AllocError, Global};
 use store::{Store, Why};
 
@@ -62,12 +63,13 @@ pub struct Merge<K: KeyOrder> {
 }
 
 impl<K: KeyOrder> Merge<K> {
-    ghost use Rattle.std.specs.Prelude.{◌≡◌, Some, IfOk, IfErr, OnOk, length};
+    ghost use Rattle.std.specs.Prelude.{◌≡◌, None, Some, true, IfOk, IfErr, OnOk, length, slice_set};
     ghost use Rattle.ikey.specs.Orders.{order_of};
     ghost use Rattle.recover.specs.internal.Merging.{IsLeastOf};
     ghost use Rattle.recover.specs.internal.MergeSteps.{IsAgainst, FitsTables, IsFresh, StandsMid, StandsRead, TellsMerge};
     ghost use Rattle.recover.specs.internal.MergeSteps.{RefusesMerge, CanBegin, AllBeginFrom, HasEnded, IsNext};
     ghost use Rattle.recover.specs.internal.Parts.{IsUnchanged};
+    ghost use Rattle.recover.specs.internal.Waiting.{AreSorted, AreWaiting};
     ghost use Rattle.recover.specs.Reading.{IsStill};
 
     /// Begins a merge that has read none of the tables.
@@ -102,7 +104,7 @@ impl<K: KeyOrder> Merge<K> {
         })
     }
 
-    /// Reads all of the tables.
+    /// Reads all of the tables, none of which was begun.
     pub fn run<S: Store>(
         &mut self,
         alloc: Global,
@@ -111,22 +113,46 @@ impl<K: KeyOrder> Merge<K> {
     ) -> Result<(), DbError>
         requires sound { IsAgainst (order_of K.name K.cmp) against }
         requires fits { FitsTables against.tables.now self.old }
-        requires mid { StandsMid (order_of K.name K.cmp) (S.facts store.old) (S.facts store.old) against self.old }
+        requires fresh { IsFresh against.tables.now self.old }
         ensures store { IsUnchanged (S.facts store.old) (S.facts store.new) }
         ensures still { IsStill (S.facts store.old) (S.facts store.new) result }
         ensures told { IfErr result (λ e. TellsMerge e (order_of K.name K.cmp) (S.facts store.old) (S.facts store.new) against.entry) }
         ensures refused { IfErr result (λ e. RefusesMerge e (order_of K.name K.cmp) (S.facts store.old) (S.facts store.new) against.entry) }
         ensures found { OnOk result (StandsRead (order_of K.name K.cmp) (S.facts store.old) (S.facts store.new) against.entry self.new) }
     {
-        for _ in 0..u64::MAX {
-            let Some((place, smallest)) = soonest::<K>(against.tables, &self.begun) else {
-                self.run_until(alloc, store, against, None)?;
-                return Ok(());
-            };
-            self.run_until(alloc, store, against, Some(smallest))?;
-            self.begin(alloc, store, against, place)?;
+        let waiting = by_smallest::<K>(alloc, against.tables)?;
+        self.begin_all(alloc, store, against, &waiting)?;
+        self.run_until(alloc, store, against, None)?;
+        Ok(())
+    }
+
+    // Begins the tables in this order, each as soon as all entries before its smallest key have
+    // passed.
+    fn begin_all<S: Store>(
+        &mut self,
+        alloc: Global,
+        store: &mut S,
+        against: Against<'_>,
+        waiting: &[Waiting<'_>],
+    ) -> Result<(), DbError>
+        requires sound { IsAgainst (order_of K.name K.cmp) against }
+        requires fits { FitsTables against.tables.now self.old }
+        requires fresh { IsFresh against.tables.now self.old }
+        requires waiting { AreWaiting against.tables.now (length against.tables.now) waiting.now }
+        requires sorted { AreSorted K.cmp waiting.now }
+        ensures store { IsUnchanged (S.facts store.old) (S.facts store.new) }
+        ensures still { IsStill (S.facts store.old) (S.facts store.new) result }
+        ensures told { IfErr result (λ e. TellsMerge e (order_of K.name K.cmp) (S.facts store.old) (S.facts store.new) against.entry) }
+        ensures refused { IfErr result (λ e. RefusesMerge e (order_of K.name K.cmp) (S.facts store.old) (S.facts store.new) against.entry) }
+        ensures fits { OnOk result (FitsTables against.entry.tables.now self.new) }
+        ensures found { OnOk result (StandsMid (order_of K.name K.cmp) (S.facts store.old) (S.facts store.new) against.entry self.new) }
+        ensures begun { OnOk result (AllBeginFrom (order_of K.name K.cmp) against.entry.tables.now self.new.begun.items None) }
+    {
+        for next in waiting {
+            self.run_until(alloc, store, against, Some(next.smallest))?;
+            self.begin(alloc, store, against, next.place)?;
         }
-        Err(DbError::OutOfMemory)
+        Ok(())
     }
 
     // Passes all entries that come before this key, or all.
@@ -180,6 +206,7 @@ impl<K: KeyOrder> Merge<K> {
         ensures refused { IfErr result (λ e. RefusesMerge e (order_of K.name K.cmp) (S.facts store.old) (S.facts store.new) against.entry) }
         ensures fits { OnOk result (FitsTables against.entry.tables.now self.new) }
         ensures found { OnOk result (StandsMid (order_of K.name K.cmp) (S.facts store.old) (S.facts store.new) against.entry self.new) }
+        ensures begun { OnOk result (self.new.begun.items ≡ slice_set self.old.begun.items place true) }
     {
         let placed = placed_at(against.tables, place);
         let walk = TableWalk::<K>::begin(alloc, store, placed)?;
@@ -227,41 +254,6 @@ impl<K: KeyOrder> Merge<K> {
         lane.stands = false;
         self.summaries[lane.place].entries = lane.walk.passed;
         Ok(())
-    }
-}
-
-// Of the tables that weren't begun one with the least smallest key, and that key.
-fn soonest<'a, K: KeyOrder>(
-    tables: &'a [PlacedTable],
-    begun: &[bool],
-) -> Option<(usize, InternalKey<'a>)>
-    requires { length begun.now ≡ length tables.now }
-    ensures { IsSoonest (order_of K.name K.cmp) tables.now begun.now result }
-{
-    let mut best: Option<(usize, InternalKey<'a>)> = None;
-    for place in 0..tables.len() {
-        if begun[place] {
-            continue;
-        }
-        let Some(key) = unpack(tables[place].table.smallest.as_slice()) else {
-            continue;
-        };
-        if !is_sooner::<K>(key, best) {
-            continue;
-        }
-        best = Some((place, key));
-    }
-    best
-}
-
-// Whether the key comes before that of the best one, if there is one.
-fn is_sooner<K: KeyOrder>(key: InternalKey<'_>, best: Option<(usize, InternalKey<'_>)>) -> bool
-    ensures { MatchBool result (IsSooner (order_of K.name K.cmp) key.entry best.entry)
-        (IsSooner (order_of K.name K.cmp) key.entry best.entry → ⊥) }
-{
-    match best {
-        None => true,
-        Some((_, other)) => { is_in_front::<K>(key.user, key.sequence, other.user, other.sequence) }
     }
 }
 

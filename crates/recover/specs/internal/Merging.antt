@@ -10,7 +10,6 @@ use Rattle.coding.specs.declared.error.Damage.TheVariants as damage
 use Rattle.coding.specs.declared.error.FileKind.TheVariants as file
 use Rattle.edits.specs.declared.field.PlacedTable.{PlacedTable}
 use Rattle.ikey.specs.Keys.{Key, IsKey}
-use Rattle.ikey.specs.KeyViews.{key_of}
 use Rattle.ikey.specs.Orders.{Order}
 use Rattle.ikey.specs.Sources.{ComesBefore}
 use Rattle.ikey.specs.declared.entry.Entry.{Entry}
@@ -204,35 +203,10 @@ IsNotOlder logged key sequence =
 
 -- ---- which table is begun next
 
--- the key comes in front of that of the best one, if there is one
-abbrev pub IsSooner : Order → InternalKey → Option (ℕ × InternalKey) → Type 0
-IsSooner order key None = Unit {0}
-IsSooner order key (Some best) = ComesBefore order (stamp key.user.now key.sequence) (stamp best.1.user.now best.1.sequence)
-
 -- the table at this place wasn't begun, and has this smallest key
 abbrev pub DoesWait : List PlacedTable → List Bool → ℕ → Key → Type 0
 DoesWait tables begun place key =
     (placed : PlacedTable) × (slice_get tables place ≡ Some placed) × (slice_get begun place ≡ Some false) × IsKey placed.table.smallest key
-
--- Of the first tables, so many, none waits; or the one at this place waits with this key, and none
--- does in front of it.
-abbrev pub IsSoonestOf : Order → List PlacedTable → List Bool → ℕ → Option (ℕ × InternalKey) → Type 0
-IsSoonestOf order tables begun count None = (place : ℕ) (key : Key) → place < count → DoesWait tables begun place key → ⊥
-IsSoonestOf order tables begun count (Some best) = DoesWait tables begun best.0 (key_of best.1)
-    × ((place : ℕ) (key : Key) → place < count → DoesWait tables begun place key
-    → ComesBefore order (stamp key.user key.sequence) (stamp best.1.user.now best.1.sequence) → ⊥)
-
--- none of the tables waits; or the one at this place waits with this key, and none does in front of
--- it
-abbrev pub IsSoonest : Order → List PlacedTable → List Bool → Option (ℕ × InternalKey) → Type 0
-IsSoonest order tables begun None = (place : ℕ) (placed : PlacedTable) (key : Key)
-    → slice_get tables place ≡ Some placed → slice_get begun place ≡ Some false → IsKey placed.table.smallest key → ⊥
-IsSoonest order tables begun (Some best) =
-    (placed : PlacedTable) × (slice_get tables best.0 ≡ Some placed) × (slice_get begun best.0 ≡ Some false)
-    × IsKey placed.table.smallest (key_of best.1)
-    × ((place : ℕ) (other : PlacedTable) (key : Key) → slice_get tables place ≡ Some other → slice_get begun place ≡ Some false
-    → IsKey other.table.smallest key
-    → ComesBefore order (stamp key.user key.sequence) (stamp best.1.user.now best.1.sequence) → ⊥)
 
 -- the key at hand comes in front of the bound, if there is one
 abbrev pub IsWithin : Order → Head → Option InternalKey → Type 0
