@@ -41,8 +41,8 @@ abbrev pub IsWellKept : InternalEntry → Type 0
 IsWellKept entry = entry.value ≡ value_kept (value_of entry.key.kind entry.value)
 
 -- These entries of the inputs came, and of them those were written that are needed. The last has
--- this key, and none comes behind it. Each came before all that came later, whatever the name of
--- the order is.
+-- this key, and none comes after it. Each came before all that came later, whatever the name of the
+-- order is.
 pub record IsMerging (cmp : Cmp) (deep : List ℕ → Bool) (last : List ℕ) (c : Choosing) (w : TablesWritten) (facts : Facts) (next : ℕ) (came : List InternalEntry) : Type 0 where
   pub written : List Pair
   pub kept : List InternalEntry

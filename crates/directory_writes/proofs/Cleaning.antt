@@ -580,7 +580,7 @@ pub names_more : (xs : List (String Global)) (i : ℕ) (x : String Global) (byte
 names_more xs i x bytes lt is e =
     ap (λ (b : List ℕ). map string_bytes (take i xs) ++ b ∷ []) (e ∙ ap string_bytes is) ∙ sym (ap (map string_bytes) (take_more xs i x lt) ∙ map-append string_bytes (take i xs) (get_or xs i x ∷ []))
 
--- What is there behind a removal is live by what is there.
+-- What is there after a removal is live by what is there.
 module _ (numbers : LiveNumbers) (in_use : ℕ → Type 0) (old new : Facts) (removal : Removal) (r : RemovesDead old new (IsLiveAmong old.files numbers in_use) (Ok removal)) (f : IsTrue new.faithful) where
   still : (q : List ℕ) → contains_key new.files q ≡ true → contains_key old.files q ≡ true
   still q = there_still old new (IsLiveAmong old.files numbers in_use) q (r.files f q)

@@ -128,7 +128,7 @@ pub keeps_meaning : (numbers : LiveNumbers) (in_use : ℕ → Type 0) (old new :
 keeps_meaning numbers in_use old new r removes law f order d h are =
     keeps_parts order numbers in_use old.files new.files (stays_or_goes old new (IsLiveAmong old.files numbers in_use) (removes.files f)) d h are law
 
--- ---- a stop in the middle
+-- ---- a process crash in the middle
 
 module _ (numbers : LiveNumbers) (in_use : ℕ → Type 0) (old mid : Facts) (calls : mid.calls ≡ old.calls) (same : mid.files ≡ old.files) where
   -- before anything is removed

@@ -61,7 +61,7 @@ module _ (numbers : LiveNumbers) (in_use : ℕ → Type 0) where
         | inr dead ↦ inr dead
       ]) whole behind d c
 
-  -- ---- a stop in the middle
+  -- ---- a process crash in the middle
 
   abbrev pub StaysEach : Files → Files → Type 0
   StaysEach old files = OfEach (λ whole behind. StaysConsistent numbers in_use whole behind) old files

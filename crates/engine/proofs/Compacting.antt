@@ -153,7 +153,7 @@ either : {X : Type 0} (b : Bool) (x : Option X) (y : Option X) (z : X) → cond 
 either true x y z is = inl is
 either false x y z is = inr is
 
--- one was put under an id, or taken away
+-- one was put under an id, or removed
 pub known_updated : (snapshots kept : BTreeMap ℕ ℕ) (last id : ℕ) (put : Option ℕ) → ((sequence : ℕ) → put ≡ Some sequence → last ≤ sequence) → ((q : ℕ) → kept_at kept q ≡ cond (is_eq (nat_cmp id q)) put (kept_at snapshots q)) → AreKnown snapshots last kept
 known_updated snapshots kept last id put above updates q sequence is = elim (either (is_eq (nat_cmp id q)) put (kept_at snapshots q) sequence (sym (updates q) ∙ is)) [
   | inl new ↦ inr (above sequence new)

@@ -386,7 +386,7 @@ module _ {K : Type 0} {g : _} (order : Order) (kept : (scan : Scan K g) → Scan
       serves_on order source source ids (open_db memory state) (open_db let_go state) 1 (Ok (tt {0})) whole whole (λ f. f) (omega arith) refl
       (λ m f same serving. (draws m 1 source.facts, serving_let_go m serving))
 
--- ---- behind a removal
+-- ---- after a removal
 
 pub flushes_behind : {K : Type 0} {g : _} (order : Order) (old mid new : Seen) (before : OpenDb K g) (memory : Memories) (after : OpenDb K g) (result : Result Progress DbError) {P : Machine → Machine → Type 0}
     → ((ids : Ids) → LeadsOpen order old mid ids before (record before { memory = memory }) P) → KeepsFlag P → (IsTrue new.facts.faithful → IsTrue mid.facts.faithful) → IsSameMemory before.memory memory → FlushesSealed order mid new (record before { memory = memory }) after result

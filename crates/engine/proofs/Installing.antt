@@ -141,7 +141,7 @@ module _ {K : Type 0} {g : _} (order : Order) (kept : (scan : Scan K g) → Scan
   entries_are : entries_of serving.contents db ≡ entries_in d
   entries_are = λ i. tabled (a.in_tables i) ++ a.in_logs i
 
-  -- the machine behind it
+  -- the machine after it
   abbrev pub ended_by : Machine
   ended_by = drawing m 0 facts
 

@@ -169,7 +169,7 @@ same_on before between after first next = record {
   iterators = λ q. next.iterators q ∙ first.iterators q;
 }
 
--- a refusal behind a call that has left all that is answered from
+-- a refusal after a call that has left all that is answered from
 pub outcome_behind : {K T U : Type 0} {g : _} (old mid new : Facts) (before between after : OpenDb K g) (e : DbError) → old.failures ≡ mid.failures → mid.denials ≡ old.denials → IsSame before between → between.broken ≡ before.broken
     → DbOutcome {T = T} MayRefusePiece mid new between after (Err e) → DbOutcome {T = U} MayRefusePiece old new before after (Err e)
 outcome_behind {T = T} {U = U} old mid new before between after e stood undenied same whole h = record {
@@ -348,7 +348,7 @@ module _ {K : Type 0} {g : _} (order : Order) (total : IsTotalOrder order.cmp) (
         final_whole : m.damaged ≡ false → final ≡ facts.files
         final_whole undamaged = end_whole order kept one lasts new facts mid (drawing m most new.facts) on after c none_left undamaged
 
-        -- the machine behind both
+        -- the machine after both
         pub once : (s : Seen) (a : OpenDb K g) → IsServing order s a (drawing (drawing m most new.facts) 0 facts) → IsServing order s a (drawing m most facts)
         once s a h = (let none : m.numbers + most + 0 ≡ m.numbers + most = omega arith in subst (λ (k : ℕ). IsServing order s a (record m { numbers = k; failures = facts.failures; denials = facts.denials })) none h)
 
@@ -435,7 +435,7 @@ module _ {K : Type 0} {g : _} (order : Order) (total : IsTotalOrder order.cmp) (
       abbrev Carried : Type 0
       Carried = IsTrue facts.faithful → CarriesBut new.facts facts (IsTableName (IsNumberAtHand after.job.outputs))
 
-      -- and behind it no call came since the last sync
+      -- and after it no call came since the last sync
       abbrev Ends : Type 0
       Ends = IsTrue facts.faithful → behind_sync [] facts.calls ≡ []
 

@@ -1,4 +1,4 @@
--- What a loss of power leaves while a log is begun: it may be there, or not.
+-- What a power loss leaves while a log is begun: it may be there, or not.
 use Rattle.std.proofs.Common.{◌≡◌, ◌≢◌, ◌⊎◌, ◌<◌, ◌+◌, ◌++◌, ◌∷◌, ◌^◌, ℕ, true, List, [], None, inl, inr, refl, sym, ap, subst, ◌∙◌, arith}
 use Rattle.std.specs.FinMap.{get, contains_key}
 use Rattle.directory_writes.proofs.StoreCalls.{with_other}
@@ -193,7 +193,7 @@ module _ {K : Type 0} {g : _} (order : Order) (source : Seen) (db : OpenDb K g) 
   pub found_begun : KeepsFound old facts db
   found_begun = as_it_was facts (λ q apart. ((left q apart).0, stays q apart))
 
-  -- at the moment in front of it, and at that behind it
+  -- at the moment before it, and at that after it
   pub first_begun : IsConsistent order facts.files d ⊎ HasNewLog order facts.files d next → LosesFirst order old facts db m
   first_begun now =
       let P : Files → Type 0 = λ lost. SparesFound old db lost → HoldsFirst order lost m in

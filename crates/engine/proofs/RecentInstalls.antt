@@ -1,4 +1,4 @@
--- What the logs that were begun have behind the end of a compaction.
+-- What the logs that were begun have after the end of a compaction.
 use Rattle.std.proofs.Common.{◌≡◌, inl, inr, ℕ, ◌+◌, ◌<◌, ◌≤◌, Bool, List, Contains, [], ◌∷◌, ◌++◌, length, take, drop, map, sum_by, ap, arith}
 use Rattle.std.proofs.lemmas.Bool.{cases_lt}
 use Rattle.compact.proofs.Keeping.{keeps_views}

@@ -21,7 +21,7 @@ value_found test (e ∷ entries) x is = at (λ there. value_found test entries x
     at later true here = (let same : e.1 ≡ x = cc in (0, omega arith, same))
     at later false there = further x e.1 (values_of entries) (later there)
 
--- the one that was pushed behind the others
+-- the one that was pushed after the others
 pub last_kept : (xs items sorted : List ℕ) (last : ℕ) → items ≡ xs ++ last ∷ [] → IsPermutation items sorted → Contains sorted last
 last_kept xs items sorted last behind moved = Contains-permutation items sorted last moved (subst (λ (ys : List ℕ). Contains ys last) (sym behind) (Contains-push xs last))
 

@@ -1,4 +1,4 @@
--- What a loss of power leaves at any moment of a run of a session, by what each of its commands
+-- What a power loss leaves at any moment of a run of a session, by what each of its commands
 -- promises; and at its begin, of an open database or of files that the device has.
 use Rattle.std.proofs.Common.{◌≡◌, ◌≤◌, ℕ, Bool, true, false, List, [], ◌∷◌, take, Option, Some, None, is_some, IsSome, IsTrue, inl, inr, refl, sym, ap, subst, ◌∙◌, append-nil, arith}
 use Rattle.std.specs.FinMap.{get}
@@ -163,7 +163,7 @@ module _ {S K : Type 0} {g : _} (order : Order) (facts : S → Facts) (old new :
 
 -- ---- a run
 
--- what is synced is a beginning in front of each command
+-- what is synced is a beginning before each command
 sound_before : {S K : Type 0} {g : _} (order : Order) (facts : S → Facts) (ops : List Op) (answers : List Answer) (old new : Session S K g) → AllApplied order facts ops answers old new → SyncsBeginnings (facts (store_of new)) → SyncsBeginnings (facts (store_of old))
 sound_before {S} {K} {g} order facts [] [] old new same sound = subst (λ (session : Session S K g). SyncsBeginnings (facts (store_of session))) same sound
 sound_before order facts (op ∷ ops) (answer ∷ answers) old new h sound = h.1.sound

@@ -131,7 +131,7 @@ steps_begun order options old between new before mid after most plan leads flag 
   merged,
 )
 
--- behind a piece that leaves tables and compaction
+-- after a piece that leaves tables and compaction
 pub steps_behind : {K : Type 0} {g : _} (order : Order) (options : OptionValues) (old mid new : Seen) (before between after : OpenDb K g) (most : ℕ) {P : Machine → Machine → Type 0} → ((ids : Ids) → LeadsOpen order old mid ids before between P) → KeepsFlag P → IsTrue mid.facts.faithful
     → version_of between ≡ version_of before → live_sequences before ≡ live_sequences between → between.job ≡ before.job → KeepsTableFiles order old mid before → StepsBy order options mid new between after most → StepsBy order options old new before after most
 steps_behind {K} {g} order options old mid new before between after most leads flag f version sequences same files inner =

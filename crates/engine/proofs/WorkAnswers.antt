@@ -86,7 +86,7 @@ as_failure m n most complete e rose piece = record { failures = piece.failures; 
     at _ complete rose h = h
 
 module _ {K : Type 0} {g : _} (order : Order) (old mid new : Seen) (ids : Ids) (before between after : OpenDb K g) where
-  -- a refusal behind a removal
+  -- a refusal after a removal
   pub then_refused : {T U : Type 0} (most : ℕ) (complete : Bool) (e : DbError) → (complete ≡ false → old.facts.failures < mid.facts.failures) → mid.facts.failures ≤ new.facts.failures
       → LeadsOpen order old mid ids before between (λ m n. IsPiece m 0 (Ok complete) n) → LeadsOpen order mid new ids between after (λ m n. IsPiece {T = T} m most (Err e) n)
       → LeadsOpen order old new ids before after (λ m n. IsPiece {T = U} m (0 + most) (Err (refused_as complete e)) n)

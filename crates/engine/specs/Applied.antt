@@ -67,8 +67,8 @@ Shows options (Get key snapshot) state answer = IsRead key snapshot state answer
 Shows options (Work budget) state answer = ShowsWork options state answer
 Shows options _ state answer = Unit {0}
 
--- Behind a compaction of a level that level has no tables; behind one of all, all tables stand in
--- the last level, and nothing is in memory.
+-- After a compaction of a level that level has no tables; after one of all, all tables stand in the
+-- last level, and nothing is in memory.
 abbrev pub EmptiesLevel : {K : Type 0} {g : _} → ℕ → Option (OpenDb K g) → Answer → Type 0
 EmptiesLevel level (Some db) Done = IsLevelEmpty level db
 EmptiesLevel level None Done = Unit {0}
@@ -84,7 +84,7 @@ Leaves (CompactLevel level) state answer = EmptiesLevel level state answer
 Leaves CompactAll state answer = CompactsWhole state answer
 Leaves _ state answer = Unit {0}
 
--- While the store is faithful, the tables have only what is needed behind a compaction of all, in
+-- While the store is faithful, the tables have only what is needed after a compaction of all, in
 -- each state that the session could be in.
 abbrev pub LeavesOnly : {K : Type 0} {g : _} → Order → Facts → (Machine → Type 0) → Option (OpenDb K g) → Answer → Type 0
 LeavesOnly order facts before (Some db) Done = IsTrue facts.faithful → (m : Machine) → before m → HasOnlyNeeded order facts.files db m
@@ -95,7 +95,7 @@ abbrev pub KeepsOnly : {K : Type 0} {g : _} → Op → Order → Facts → (Mach
 KeepsOnly CompactAll order facts before state answer = LeavesOnly order facts before state answer
 KeepsOnly _ order facts before state answer = Unit {0}
 
--- No database is open behind a close.
+-- No database is open after a close.
 abbrev pub Shuts : {K : Type 0} {g : _} → Op → Option (OpenDb K g) → Type 0
 Shuts Close state = state ≡ None
 Shuts _ state = Unit {0}
@@ -187,7 +187,7 @@ pub record HoldsNothing {S K : Type 0} {g : _} (session : Session S K g) : Type 
   pub alone : IsAlone session.source.memory
   pub entries : session.source.memory.current.inserts ≡ []
 
--- So it is behind a close that was done.
+-- So it is after a close that was done.
 abbrev pub LetsGo : {S K : Type 0} {g : _} → Op → Session S K g → Answer → Type 0
 LetsGo Close new Done = HoldsNothing new
 LetsGo op new answer = Unit {0}

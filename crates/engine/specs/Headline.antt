@@ -24,7 +24,7 @@ pub record Holds (order : Order) (files : Files) (m : Machine) : Type 0 where
   pub directory : IsDirectory order files entries m.used
   pub view : IsView entries m.used (current m)
 
--- They hold it with the batch in doubt as a whole, or without it.
+-- They hold it with the in-doubt batch as a whole, or without it.
 abbrev pub HoldsAccepted : Order → Files → Machine → Type 0
 HoldsAccepted order files m = MatchOption m.in_doubt (Holds order files m) (λ batch. Holds order files m ⊎ Holds order files (accepted m batch false))
 
@@ -46,7 +46,7 @@ pub record IsFirst (order : Order) (facts : Facts) (m : Machine) : Type 0 where
   pub counts : (m.failures ≡ facts.failures) × (m.denials ≡ facts.denials)
   pub size : (m.first_entries ≡ length holds.entries) × (m.first_weight ≡ sum_by entry_weight holds.entries)
 
--- The machine behind the last one: the files hold what it accepted, with the batch in doubt as a
+-- The machine after the last one: the files hold what it accepted, with the in-doubt batch as a
 -- whole or without it.
 pub record IsLast (order : Order) (facts : Facts) (m : Machine) : Type 0 where
   pub holds : HoldsAccepted order facts.files m

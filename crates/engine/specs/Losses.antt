@@ -1,4 +1,4 @@
--- What a loss of power leaves of an open database.
+-- What a power loss leaves of an open database.
 use Rattle.std.specs.Prelude.{◌≡◌, ◌<◌, ◌≤◌, ℕ, length, take, false, IsTrue, Contains, List, [], map, string_bytes, Option, Some, None, Result, OnOk}
 use Rattle.std.specs.FinMap.{get}
 use Rattle.batch.specs.declared.operation.Operation.{Operation}
@@ -30,7 +30,7 @@ use Rattle.engine.specs.declared.ids.Ids.{Ids}
 use Rattle.engine.specs.internal.Standing.{StandsClosed}
 use Rattle.engine.specs.declared.session.Session.{Session}
 
--- The log that writes go to is synced as the last call, no log in front of it is in doubt, and the
+-- The log that writes go to is synced as the last call, no log before it is in doubt, and the
 -- database goes on serving.
 pub record HasSyncedLog {K : Type 0} {g : _} (facts : Facts) (db : OpenDb K g) : Type 0 where
   pub last : IsSynced facts (string_bytes db.log.name)
@@ -38,23 +38,23 @@ pub record HasSyncedLog {K : Type 0} {g : _} (facts : Facts) (db : OpenDb K g) :
   pub ends : EndsInSync facts
   pub whole : db.broken ≡ false
 
--- So it is behind a write that asks for it, where it is accepted.
+-- So it is after a write that asks for it, where it is accepted.
 abbrev pub SyncsLogs : {K T : Type 0} {g : _} → Type 0 → Facts → OpenDb K g → Result T DbError → Type 0
 SyncsLogs asked new after result = IsTrue new.faithful → asked → OnOk result (HasSyncedLog new after)
 
 -- ---- what a loss leaves
 
 -- The tables that were there before the open, whose numbers are below that of its MANIFEST, read as
--- they do. (Who wrote them had the device keep them.)
+-- they do. (Who wrote them synced them.)
 abbrev pub LeavesFound : {K : Type 0} {g : _} → Files → Files → OpenDb K g → Type 0
 LeavesFound files lost db = (n : ℕ) → IsNumbered n → n < db.directory.manifest.number → table_at lost n ≡ table_at files n
 
--- Every loss of power until the next call leaves files that hold what the machine accepted, if it
+-- Every power loss until the next call leaves files that hold what the machine accepted, if it
 -- leaves those tables.
 abbrev pub Outlasts : {K : Type 0} {g : _} → Order → Facts → OpenDb K g → Machine → Type 0
 Outlasts order facts db m = (lost : Files) → Lost facts (moment facts) lost → LeavesFound facts.files lost db → Holds order lost m
 
--- So it is behind a write that asks for it, where it is accepted: of whatever the database stands
+-- So it is after a write that asks for it, where it is accepted: of whatever the database stands
 -- for then.
 abbrev pub DbOutlasts : {S K T : Type 0} {g : _} → Type 0 → Order → (S → Facts) → Db S K g → Result T DbError → Type 0
 DbOutlasts asked order facts new result =
@@ -93,9 +93,9 @@ abbrev pub LeavesFoundLogs : {K : Type 0} {g : _} → Files → Files → OpenDb
 LeavesFoundLogs files lost db = (n : ℕ) → IsNumbered n → n < db.directory.manifest.number → Contains (map string_bytes db.log.front.items) (name_of (Log n))
     → get lost (name_of (Log n)) ≡ get files (name_of (Log n))
 
--- The files hold the first of the batches that the machine accepted, no fewer than the last write
--- with sync had the device keep, and no others: none is gone in front of one that is there. (A
--- MANIFEST may have recorded that later sequence numbers were used.)
+-- The files hold a prefix of the batches that the machine accepted, no fewer than the last write
+-- with sync synced, and no others: none is gone before one that is there. (A MANIFEST may have
+-- recorded that later sequence numbers were used.)
 pub record HoldsFirst (order : Order) (files : Files) (m : Machine) : Type 0 where
   pub count : ℕ
   pub within : count ≤ length m.batches
@@ -103,7 +103,7 @@ pub record HoldsFirst (order : Order) (files : Files) (m : Machine) : Type 0 whe
   pub used : ℕ
   pub holds : Holds order files (record m { batches = take count m.batches; used = used })
 
--- Every loss of power until the next call leaves so much of an open database that isn't broken,
+-- Every power loss until the next call leaves so much of an open database that isn't broken,
 -- whatever the last call was and answered, if it leaves what the open found.
 abbrev pub LosesEnds : {K : Type 0} {g : _} → Order → Facts → OpenDb K g → Machine → Type 0
 LosesEnds order facts db m = db.broken ≡ false → (lost : Files) → Lost facts (moment facts) lost → LeavesFound facts.files lost db
@@ -132,8 +132,7 @@ SparesBelow facts bound lost = (n : ℕ) → IsNumbered n → n < bound
 abbrev pub SparesFound : {K : Type 0} {g : _} → Facts → OpenDb K g → Files → Type 0
 SparesFound facts db lost = SparesBelow facts db.directory.manifest.number lost
 
--- A loss of power at any moment since old leaves the first of the accepted batches, if it spares
--- these.
+-- A power loss at any moment since old leaves a prefix of the batches, if it spares these.
 abbrev pub LosesFirst : {K : Type 0} {g : _} → Order → Facts → Facts → OpenDb K g → Machine → Type 0
 LosesFirst order old new db m = LosesOnly old new (λ lost. SparesFound old db lost → HoldsFirst order lost m)
 
@@ -153,8 +152,8 @@ DbLosesWrite order facts operations old new = IsTrue (facts (db_store_of new)).f
 
 -- ---- in the middle of an open
 
--- Where the device has the names that were there, a loss of power that cuts no file short which was
--- there leaves what was accepted, the batch in doubt wholly or not.
+-- Where the device has the names that were there, a power loss that cuts no file short which was
+-- there leaves what was accepted, the in-doubt batch wholly or not.
 abbrev pub OpenLoses : Order → Facts → Facts → Ids → Type 0
 OpenLoses order old new ids = IsTrue new.faithful → (m : Machine) → m.damaged ≡ false → StandsClosed order old ids m → ((name : List ℕ) → StaysNamed old name)
     → LosesOnly old new (λ lost. LeavesUncut old lost → HoldsAccepted order lost m)

@@ -33,7 +33,7 @@ abbrev pub WorksAtPace : Pace → Machine → Machine → Type 0
 WorksAtPace KeepsUp old new = OnlyDraws old new
 WorksAtPace (Refused error) old new = OnlyWorks old new
 
--- A batch was accepted, and worked on behind that; or it was refused, and nothing was done.
+-- A batch was accepted, and worked on after that; or it was refused, and nothing was done.
 abbrev pub WritesAtPace : Machine → List Operation → Bool → Result Pace DbError → Machine → Type 0
 WritesAtPace old operations sync (Ok pace) new = (written : Machine) × Writes old operations sync answer.Done written × WorksAtPace pace written new
 WritesAtPace old operations sync (Err error) new = Writes old operations sync (answer.Refused error) new

@@ -1,5 +1,5 @@
--- Any open behind other calls of the same store, refused or not, whatever they were: what a loss of
--- power leaves in its middle is what it left in front of it.
+-- Any open after other calls of the same store, refused or not, whatever they were: what a power
+-- loss leaves in its middle is what it left before it.
 use Rattle.std.specs.Prelude.{◌≡◌, ◌⊎◌, ◌<◌, ◌≤◌, ◌++◌, ◌∷◌, [], ℕ, List, false, IsSome, IsTrue, Option, Some, None}
 use Rattle.std.specs.FinMap.{get}
 use Rattle.edits.specs.Names.{IsNumbered, name_of}
@@ -70,7 +70,7 @@ IsFresh db = (db.job ≡ None) × (db.iterators.entries ≡ [])
 
 -- ---- an open
 
--- A loss leaves the first of the batches of a machine, if it spares the files with numbers below
+-- A loss leaves a prefix of the batches of a machine, if it spares the files with numbers below
 -- this one that were there then.
 abbrev pub LeavesFirst : Order → Facts → ℕ → Machine → Files → Type 0
 LeavesFirst order since bound m lost = SparesBelow since bound lost → HoldsFirst order lost m
@@ -80,7 +80,7 @@ abbrev pub LosesOn : Order → Facts → Facts → Type 0
 LosesOn order old new = (since : Facts) (bound : ℕ) (m : Machine) → StaysFound since old bound → LosesOnly old old (LeavesFirst order since bound m)
     → LosesOnly old new (LeavesFirst order since bound m) × StaysFound since new bound
 
--- So it is in the middle of each open of a store that has the lock's file, as it has behind each
+-- So it is in the middle of each open of a store that has the lock's file, as it has after each
 -- that was accepted.
 abbrev pub OpenLosesOn : Order → Facts → Facts → Ids → Type 0
 OpenLosesOn order old new ids = IsTrue new.faithful → IsSome (get old.files lock_name) → (n : Machine) → n.damaged ≡ false → StandsClosed order old ids n → LosesOn order old new
@@ -119,7 +119,7 @@ abbrev pub KeepsLogsBy : {S K : Type 0} {g : _} → Op → (S → Facts) → Ses
 KeepsLogsBy (Open mode) facts new answer = SessionKeepsLogs facts new answer
 KeepsLogsBy _ facts new answer = Unit {0}
 
--- Nothing is under way behind it.
+-- Nothing is under way after it.
 abbrev pub FreshOver : {K : Type 0} {g : _} → Option (OpenDb K g) → Answer → Type 0
 FreshOver (Some db) Done = IsFresh db
 FreshOver state answer = Unit {0}

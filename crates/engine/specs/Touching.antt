@@ -26,8 +26,8 @@ done = Ok tt
 
 -- ---- a write
 
--- What was put behind the file of this name is synced where that was asked for. Those in front of
--- it are synced wherever something was put there; nothing else is.
+-- What was put after the file of this name is synced where that was asked for. Those before it are
+-- synced wherever something was put there; nothing else is.
 pub record SyncsLog {T E : Type 0} (some asked : Type 0) (sync : Bool) (name : List ℕ) (front : List (List ℕ)) (old new : Facts) (result : Result T E) : Type 0 where
   pub kept : IsTrue new.faithful → asked → OnOk result (IsSynced new name)
   pub front_kept : IsTrue new.faithful → some → IsNoneOf name front → OnOk result (AllByRecursion (IsSynced new) front)
@@ -48,7 +48,7 @@ abbrev pub log_of : {K : Type 0} {g : _} → Option (OpenDb K g) → List ℕ
 log_of None = []
 log_of (Some state) = string_bytes state.log.name
 
--- and those of the live logs in front of it that the device may not have whole
+-- and those of the live logs before it that the device may not have whole
 abbrev pub front_of : {K : Type 0} {g : _} → Option (OpenDb K g) → List (List ℕ)
 front_of None = []
 front_of (Some state) = map string_bytes state.log.front.items
@@ -66,7 +66,7 @@ pub record Locks {T : Type 0} (old new : Facts) (result : Result T DbError) : Ty
   pub locked : OnOk result (new.locked ≡ true)
   pub freed : IfErr result (λ e. new.locked ≡ true → (old.locked ≡ true) ⊎ (old.failures + told_failures e < new.failures))
 
--- Behind an accepted open the file `LOCK` is there. One that was there is left alone, also by an
+-- After an accepted open the file `LOCK` is there. One that was there is left alone, also by an
 -- open that is refused.
 pub record HasLockFile {T : Type 0} (old new : Facts) (result : Result T DbError) : Type 0 where
   pub there : IsTrue new.faithful → OnOk result (IsSome (get new.files lock_name))

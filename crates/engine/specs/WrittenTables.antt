@@ -49,8 +49,7 @@ abbrev pub PutsSealed : {K : Type 0} {g : _} → Order → Seen → Seen → Ope
 PutsSealed order old new before after =
     IsTrue new.facts.faithful → (ids : Ids) (m : Machine) → StandsWhole order old ids before m → (sealed_inserts before.memory ≡ []) ⊎ HasFlushed order new.facts.files (sealed_inserts before.memory) before after
 
--- So it is behind a call of work in front of which a memtable was sealed, and no compaction
--- under way.
+-- So it is after a call of work before which a memtable was sealed, and no compaction under way.
 abbrev pub FlushesSealed : {K : Type 0} {g : _} → Order → Seen → Seen → OpenDb K g → OpenDb K g → Result Progress DbError → Type 0
 FlushesSealed order old new before after result = result ≡ Ok Worked → before.job ≡ None → IsSome before.memory.sealed → PutsSealed order old new before after
 
@@ -82,7 +81,7 @@ MergesPlan {K} {g} order plan old new before after =
     × (mid.tables ≡ before.tables) × MatchOption mid.job ⊥ (λ work. (work.job.plan ≡ plan) × IsForLive work before) × PutsMerged order between new mid after
 
 -- So it is of a compaction of a level, unless the level had no table. The one under way, if one
--- was, had come to its end in front of it.
+-- was, had come to its end before it.
 abbrev pub MergesLevel : {K : Type 0} {g : _} → Order → ℕ → Seen → Seen → OpenDb K g → OpenDb K g → Type 0
 MergesLevel {K} {g} order level old new before after =
     IsTrue new.facts.faithful → (between : Seen) × (mid : OpenDb K g) × ((ids : Ids) (m : Machine) → StandsWhole order old ids before m → (n : Machine) × StandsWhole order between ids mid n)

@@ -12,7 +12,7 @@ use Rattle.ikey.specs.Keys.{Key, IsKey, tag_of}
 use Rattle.ikey.specs.Below.{IsBelowInternal}
 use Rattle.ikey.proofs.Words.{less-is, tied-is}
 
--- behind the same front a smaller byte comes first
+-- after the same front a smaller byte comes first
 less-behind : (k : ℕ) (xs rest : List ℕ) → k < length xs → 0 < length rest → get_or xs k 0 < get_or rest 0 0 → slice_cmp nat_cmp xs (take k xs ++ rest) ≡ Less
 less-behind k [] rest p q lt = absurd (omega (arith, p))
 less-behind zero (x ∷ xs) [] p q lt = absurd (omega (arith, q))

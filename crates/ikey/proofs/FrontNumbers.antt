@@ -56,7 +56,7 @@ front-greater (suc k) n (x ∷ xs) (y ∷ ys) h j lt =
     by (inr (inl l)) rest = absurd (omega (arith, lt, rises k (n * 256 + x) (n * 256 + y) xs ys (λ i. h (suc i)) (omega (arith, l))))
     by (inr (inr g)) rest = ap (λ (o : Ordering). ordering_then o (slice_cmp nat_cmp xs ys)) (greater-is x y g)
 
--- behind the same bytes keys are ordered as they are
+-- after the same bytes keys are ordered as they are
 pub behind-shared : (shared xs ys : List ℕ) → slice_cmp nat_cmp (shared ++ xs) (shared ++ ys) ≡ slice_cmp nat_cmp xs ys
 behind-shared [] xs ys = refl
 behind-shared (byte ∷ shared) xs ys =

@@ -72,7 +72,7 @@ same_cut cmp lists its cut index count list at inner outer entry member =
     ]
 
 module _ (cmp : Cmp) (source : Seen) (row : List PlacedTable) (lists : List (List InternalEntry)) (have : HaveLists cmp source row lists) where
-  -- a cut in front of which so many entries lie
+  -- a cut before which so many entries lie
   pub lies_in : (cut : Cut) (index count : ℕ) → entries_before lists index ≤ count → count ≤ entries_before lists (suc index) → SplitsAt cmp (joined lists) cut count → LiesIn cmp row index cut
   lies_in cut index count low high splits = record {
     front = λ k placed key less at is.
@@ -113,7 +113,7 @@ module _ (cmp : Cmp) (source : Seen) (row : List PlacedTable) (lists : List (Lis
   pub first_ends : (list : List InternalEntry) → slice_get lists 0 ≡ Some list → EndsIn cmp row 0 list None Front
   first_ends list at = ends_first Front 0 list at (subst (λ (n : ℕ). SplitsAt cmp (joined lists) Front n) (sym (before_zero lists)) (splits_first cmp (joined lists)))
 
-  -- a search for the last entry in front of a table
+  -- a search for the last entry before a table
   ends_back : (cut : Cut) (index : ℕ) (list : List InternalEntry) → slice_get lists index ≡ Some list → SplitsAt cmp (joined lists) cut (entries_before lists (suc index)) → EndsBackIn cmp row index list cut
   ends_back cut index list at splits =
       let up = before_up lists index (suc index) (omega arith) in

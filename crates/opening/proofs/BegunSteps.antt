@@ -64,7 +64,7 @@ behind_stops order old mid new found calls same finds wrote =
     (leaves_so mid new (IsContinued order mid.files) (IsContinued order old.files) (λ files continued. subst (λ (fs : Files). IsContinued order fs files) same continued)
     (wrote (subst (λ (fs : Files). Finds order fs found) (sym same) finds)))
 
--- behind what was read
+-- after what was read
 pub continued_behind : {T : Type 0} (order : Order) (old mid new : Facts) (found : Found) (end : ℕ) (r : Result T DbError) → (IsTrue mid.faithful → mid.files ≡ old.files) → (IsTrue mid.faithful → Finds order old.files found)
     → Rewrites order mid new found end r → IsTrue new.faithful → IsContinued order old.files new.files
 continued_behind order old mid new found end r same finds w f =
@@ -105,7 +105,7 @@ sealed_says memory found others a b entries used s = record {
 pub sealed_logged : (memory : Memories) (entries : List Entry) (used : ℕ) → IsSealedOf memory entries used → logged_in memory ≡ entries
 sealed_logged memory entries used s = let front = s.sealed in let back = s.current in (λ i. front i ++ back i) ∙ append-nil entries
 
--- ---- logs in front of the last one
+-- ---- logs before the last one
 
 rise_to : (low : ℕ) (before : List LogContent) (last : LogContent) → NumbersRise low (before ++ last ∷ []) → low < last.number
 rise_to low [] last h = h.0

@@ -61,7 +61,7 @@ module _ (order : Order) (tables : List PlacedTable) (begun : List Bool) where
           let P : Key → Type 0 = λ l. ComesBefore order (stamp l.user l.sequence) (stamp key.user.now key.sequence) in
           never_before order o (stamp key.user.now key.sequence) (subst P same before)
 
-      -- its smallest key comes in front of the best
+      -- its smallest key comes before the best
       pub soonest_lower : (best : Option (ℕ × InternalKey)) → IsSooner order key best → IsSoonestOf order tables begun place best → IsSoonestOf order tables begun (place + 1) (Some (place, key))
       soonest_lower None lower h = (
         (placed, is, waits, key_is),

@@ -86,7 +86,7 @@ module _ {K : Type 0} {g : Ghosts K} (order : Order) (work : OpenJob K g) (old :
         },
       )
 
-  -- ---- a stop in the middle
+  -- ---- a process crash in the middle
 
   abbrev pub StopsEach : Files → Type 0
   StopsEach files = OfEach (λ ideal after. EndMayLeaveOver order old ideal after next last_sequence manifest tables work) old.files files

@@ -29,7 +29,7 @@ SyncsOnly old new name = (other : List ℕ) → other ≢ name → new other ≡
 
 -- A call that writes this file alone: once a store has returned something else than what was
 -- written, that is so for good; the failures don't fall, each of them is a failed write, and the
--- lock is left alone. A stop at any moment leaves the others too.
+-- lock is left alone. A process crash at any moment leaves the others too.
 pub record Writes (old new : Facts) (name : List ℕ) : Type 0 where
   pub faithful : IsTrue new.faithful → IsTrue old.faithful
   pub failures : old.failures ≤ new.failures
@@ -67,7 +67,7 @@ NeedsLongEnds b = NeedsLongIndex b b.block ⊎ ((bytes : List ℕ) × IsWritten 
 
 -- ---- what is left
 
--- What stands behind the data blocks, which end at this offset: filter block, metaindex, index and
+-- What stands after the data blocks, which end at this offset: filter block, metaindex, index and
 -- footer.
 pub record AreEnds (offset : ℕ) (filter index bytes : List ℕ) : Type 0 where
   pub metaindex : List ℕ

@@ -77,8 +77,8 @@ IfCorrupt error P = Unit {0}
 abbrev pub IsTornIn : Cmp → PlacedTable → List ℕ → Frame → ℕ → Type 0
 IsTornIn cmp placed file frame index = (pairs : List Pair) → IsIntactIn cmp placed file frame.places index pairs → ⊥
 
--- From one block on a search comes to one of the table's that is none: each in front of it is one,
--- and passed.
+-- From one block on a search comes to one of the table's that is none: each before it is one, and
+-- passed.
 pub record StopsTorn (cmp : Cmp) (passed : List ℕ → Type 0) (placed : PlacedTable) (file : List ℕ) (frame : Frame) (start : ℕ) : Type 0 where
   pub index : ℕ
   pub reached : start ≤ index

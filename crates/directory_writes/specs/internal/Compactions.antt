@@ -82,7 +82,7 @@ pub record IsAfterJob (next_file last : ℕ) (edit : List Field) (old new : Layo
   pub compact_pointers : new.compact_pointers.items ≡ pointers_after edit 0 old.compact_pointers.items
   pub tables : after_edit edit old.tables.items ≡ Some new.tables.items
 
--- Behind the edits of a layout the edit of a job leaves that, and nothing else.
+-- After the edits of a layout the edit of a job leaves that, and nothing else.
 abbrev pub JobFoldsLaw : Type 0
 JobFoldsLaw = (name : List ℕ) (edits : List (List Field)) (level next last : ℕ) (planned : List PlacedTable) (pointer : Option (List ℕ)) (tables : List TableFile) (edit : List Field) (old new : Layout)
     → IsLayout name edits old → IsEditOf level planned pointer tables next last edit
@@ -106,7 +106,7 @@ pub record IsJobDone (order : Order) (deep : List ℕ → Bool) (plan : JobPlan)
   pub unused : AllByRecursion (IsUnused d.layout.tables.items) edit
 
 -- Its outputs are there with what must be kept of what came, in their order, and stand in these
--- tables in place of the inputs.
+-- tables instead of the inputs.
 pub record IsJobPut (order : Order) (deep : List ℕ → Bool) (level : ℕ) (snapshots : List ℕ) (files : Files) (came : List InternalEntry) (edit : List Field) (d : Directory) (inputs rest outputs contents : List TableContent) : Type 0 where
   pub after : after_edit edit d.layout.tables.items ≡ Some (placed_in contents)
   pub compaction : (next : Layout) → IsLayout order.name (d.edits ++ edit ∷ []) next → IsCompaction order d next inputs rest outputs contents level
@@ -125,13 +125,13 @@ abbrev pub UnusedLaw : Type 0
 UnusedLaw = (w : TablesWritten) (edit : List Field) (tables : List PlacedTable)
     → AllByRecursion (IsOwnIn w) edit → ((number : ℕ) → IsOwn w number → is_used number tables ≡ false) → AllByRecursion (IsUnused tables) edit
 
--- ---- behind the MANIFEST
+-- ---- after the MANIFEST
 
 -- A reader at a sequence number that sees what one of the snapshots sees, sees the same.
 abbrev pub AreSeenAlike : List Entry → List ℕ → Directory → Directory → Type 0
 AreSeenAlike merged snapshots before after = (p : ℕ) (map : Contents) → SeesAsOne merged snapshots p → IsView (entries_in before) p map → IsView (entries_in after) p map
 
--- Once the edit stands behind the MANIFEST, and no other file has changed, the directory is
+-- Once the edit stands after the MANIFEST, and no other file has changed, the directory is
 -- consistent with the outputs in the place of the inputs. Where of each key of the inputs all else
 -- is newer, or the job has kept deletes of it, the views of the snapshots are as they were.
 abbrev pub JobPutLaw : Type 0

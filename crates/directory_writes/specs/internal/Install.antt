@@ -129,7 +129,7 @@ pub record HasPreparedJob {K C : Type 0} (cmp : List ℕ → List ℕ → Orderi
 
 -- ---- what the directory means
 
--- The files are this directory. An edit can be put behind its MANIFEST, no number from `next` on is
+-- The files are this directory. An edit can be put after its MANIFEST, no number from `next` on is
 -- taken, and the tables are the directory's.
 pub record IsServed (order : Order) (files : Files) (next : ℕ) (manifest : CurrentManifest) (tables : List PlacedTable) (d : Directory) : Type 0 where
   pub consistent : IsConsistent order files d
@@ -195,7 +195,7 @@ InstallMeans order deep job old new next manifest tables came d inputs rest (Ok 
 InstallMeans order deep job old new next manifest tables came d inputs rest (Err (Before e)) = (IsCorrupt e → ⊥) × IsUninstalled order old new next manifest tables d
 InstallMeans order deep job old new next manifest tables came d inputs rest (Err Edit) = MayBeInstalled order deep job.plan.output_level job.selection.snapshots old new next came d inputs rest
 
--- A stop in its middle leaves what a failure of the device at the edit does.
+-- A process crash in its middle leaves what a failure of the device at the edit does.
 abbrev pub InstallMayLeave : {K C : Type 0} → Order → Job K C → Facts → ℕ → ℕ → CurrentManifest → List PlacedTable → Files → Type 0
 InstallMayLeave order job old next last_sequence manifest tables new = (deep : List ℕ → Bool) (came : List InternalEntry) (d : Directory) (inputs rest : List TableContent)
     → CanInstall order deep job old next last_sequence manifest tables came d inputs rest → MayBeInstalled order deep job.plan.output_level job.selection.snapshots old.files new next came d inputs rest
@@ -211,7 +211,7 @@ InstallPutsOwn order job old new next last_sequence manifest tables result =
     result ≡ Err Edit → IsTrue new.faithful → (deep : List ℕ → Bool) (came : List InternalEntry) (d : Directory) (inputs rest : List TableContent)
     → CanInstall order deep job old next last_sequence manifest tables came d inputs rest → PutsOwn order job.outputs new.files d
 
--- A stop in its middle leaves what a failure of the device at the edit does.
+-- A process crash in its middle leaves what a failure of the device at the edit does.
 abbrev pub InstallMayPutOwn : {K C : Type 0} → Order → Job K C → Facts → ℕ → ℕ → CurrentManifest → List PlacedTable → Files → Type 0
 InstallMayPutOwn order job old next last_sequence manifest tables new = (deep : List ℕ → Bool) (came : List InternalEntry) (d : Directory) (inputs rest : List TableContent)
     → CanInstall order deep job old next last_sequence manifest tables came d inputs rest → PutsOwn order job.outputs new d

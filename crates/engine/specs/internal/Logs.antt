@@ -1,4 +1,4 @@
--- What putting a batch behind the log does to the directory.
+-- What putting a batch after the log does to the directory.
 use Rattle.std.specs.Prelude.{◌≡◌, ◌⊎◌, ℕ, ◌+◌, ◌<◌, ◌≤◌, List, ◌++◌, ◌∷◌, [], length, IsTrue, Result, Err, IfOk, IfErr, OnOk}
 use Rattle.std.specs.List.{AllByRecursion}
 use Rattle.std.specs.FinMap.{get}
@@ -26,7 +26,7 @@ use Rattle.opening.specs.Losses.{IsNoneOf}
 use Rattle.engine.specs.internal.Directory.{IsReadable}
 use Rattle.opening.specs.internal.Directories.{IsDirectoryOf, CanAppend}
 
--- The bytes stand behind the file; or, where the device fails, nothing of them or a beginning.
+-- The bytes stand after the file; or, where the device fails, nothing of them or a beginning.
 pub record AppendsRecord (old new : Facts) (name bytes : List ℕ) (result : Result (Unit {0}) LogError) : Type 0 where
   pub faithful : IsTrue new.faithful → IsTrue old.faithful
   pub failures : old.failures ≤ new.failures
@@ -63,7 +63,7 @@ abbrev pub KeepsTables : Files → Files → Type 0
 KeepsTables old new = (number : ℕ)
     → (get new (name_of (Table number)) ≡ get old (name_of (Table number))) × (get new (name_of (OldTable number)) ≡ get old (name_of (OldTable number)))
 
--- The operations are put behind the log of this name, which ends at `end`, as a batch behind `used`
+-- The operations are put after the log of this name, which ends at `end`, as a batch behind `used`
 -- sequence numbers; or, where the device fails, none of them or all of them are there for the next
 -- open. Nothing else changes: no other part of the directory, nor where its MANIFEST ends, nor
 -- which numbers are free.
@@ -95,7 +95,7 @@ abbrev pub SyncsEach : List (List ℕ) → Facts → Facts → Type 0
 SyncsEach [] old new = Idles old new
 SyncsEach (name ∷ names) old new = (mid : Facts) × Adds old mid (Sync name) × (mid.synced ≡ with_synced old.synced name (get old.files name)) × SyncsEach names mid new
 
--- So are these, and behind them all something is put behind a file; or the calls ended before that.
+-- So are these, and after them all something is put after a file; or the calls ended before that.
 pub record SyncsThenPuts (names : List (List ℕ)) (old new : Facts) (puts : Facts → Type 0) : Type 0 where
   pub done : List (List ℕ)
   pub mid : Facts
@@ -113,13 +113,13 @@ pub record HasLastLog (order : Order) (files : Files) (d : Directory) (log used 
   pub batches : (next.batches ≡ last.batches) ⊎ (next.batches ≡ last.batches ++ (used + 1, operations) ∷ [])
   pub consistent : IsConsistent order files (record d { logs = before ++ next ∷ [] })
 
--- So it is wherever a beginning of these bytes stands behind the log of this name, which ended at
+-- So it is wherever a beginning of these bytes stands after the log of this name, which ended at
 -- `end`.
 abbrev pub AddsBatch : Order → Files → ℕ → List ℕ → ℕ → ℕ → List Operation → List ℕ → Type 0
 AddsBatch order old log name end used operations bytes = (files : Files) → AppendsBeginning old files name bytes → (tables : List TableContent) (entries : List Entry) → name ≡ name_of (Log log)
     → (a : CanAppend order old log end tables entries used) → HasLastLog order files a.directory log used operations
 
--- The bytes of a batch are put behind a log, and synced.
+-- The bytes of a batch are put after a log, and synced.
 pub record PutsBatch (old mid new : Facts) (log : ℕ) (name : List ℕ) (end used : ℕ) (operations : List Operation) : Type 0 where
   pub bytes : List ℕ
   pub puts : PutsSynced mid new name bytes

@@ -1,4 +1,4 @@
--- What of its files an open database has had the device keep.
+-- What of its files an open database has synced.
 use Rattle.std.specs.Prelude.{◌≡◌, ◌<◌, ◌≤◌, ℕ, false, None, List, Contains, map, string_bytes}
 use Rattle.std.specs.FinMap.{get, contains_key}
 use Rattle.std.specs.List.{AllByRecursion}
@@ -30,7 +30,7 @@ pub record HaveNames (log : CurrentLog) (state : DirectoryState) (tables : List 
   pub manifest : IsNumbered state.manifest.number × (string_bytes state.manifest.name ≡ name_of (Manifest state.manifest.number))
   pub placed : (placed : PlacedTable) → Contains tables placed → IsNumbered placed.table.number × (placed.table.number < state.numbers.next)
 
--- Since the last sync no file that the next open reads was moved, replaced, made or taken away, but
+-- Since the last sync no file that the next open reads was moved, replaced, made or removed, but
 -- for logs that were begun, of which nothing is synced; and there was no log with a number that is
 -- still to be drawn.
 pub record HaveStayed (facts : Facts) (state : DirectoryState) (tables : List PlacedTable) : Type 0 where
@@ -43,7 +43,7 @@ pub record HaveStayed (facts : Facts) (state : DirectoryState) (tables : List Pl
       × (get facts.files (name_of (Table placed.table.number)) ≡ None → StaysNamed facts (name_of (OldTable placed.table.number)))
   pub undrawn : (n : ℕ) → IsNumbered n → state.numbers.next ≤ n → StaysNamed facts (name_of (Log n)) × (contains_key facts.files (name_of (Log n)) ≡ false)
 
--- All is synced but for the logs that a write with sync has the device keep.
+-- All is synced but for the logs that a write with sync syncs.
 pub record IsSyncedBut (facts : Facts) (log : CurrentLog) (state : DirectoryState) (tables : List PlacedTable) : Type 0 where
   pub synced : AreSyncedBut (logs_in_doubt log) facts state tables
   pub names : HaveNames log state tables

@@ -37,7 +37,7 @@ pub record IsBegun {K : Type 0} (order : Order) (begun : Begun K) : Type 0 where
   pub written : begun.memory.current.inserts ≡ []
 
 -- What a directory says is in memory: the entries of its logs, the last sequence number and the
--- tables. A record can be put behind the new log.
+-- tables. A record can be put after the new log.
 pub record HasBegun {K : Type 0} (order : Order) (files : Files) (begun : Begun K) (tables : List TableContent) (entries : List Entry) (used : ℕ) : Type 0 where
   pub inserts : logged_in begun.memory ≡ entries
   pub last : begun.memory.last ≡ used

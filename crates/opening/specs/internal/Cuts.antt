@@ -1,4 +1,4 @@
--- What a loss of power leaves in the middle of a call: a directory of which logs alone may be cut.
+-- What a power loss leaves in the middle of a call: a directory of which logs alone may be cut.
 use Rattle.std.specs.Prelude.{◌≡◌, ◌⊎◌, ℕ, List, None}
 use Rattle.std.specs.FinMap.{get}
 use Rattle.edits.specs.Names.{name_of}

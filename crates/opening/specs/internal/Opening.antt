@@ -108,7 +108,7 @@ pub record IsNewManifest (order : Order) (found : Found) (bytes : List ℕ) : Ty
   pub pointers : layout.compact_pointers.items ≡ found.layout.compact_pointers.items
   pub tables : layout.tables.items ≡ found.layout.tables.items
   pub logs : KeepsLogs found layout.log_number layout.previous_log_number
-  -- an edit can be put behind it
+  -- an edit can be put after it
   pub clean : spelled.tail ≡ Clean
 
 -- The names and the bytes that the open writes.
@@ -135,8 +135,8 @@ pub record IsContinued (order : Order) (old new : Files) : Type 0 where
   pub free : (m : ℕ) → IsFree order old m → IsFree order new (m + 2)
   pub limits : (tables : List TableContent) (entries : List Entry) (used : ℕ) → IsDirectoryOf order old tables entries used → IsWithinLimits order old → IsWithinLimits order new
 
--- A record can be put behind the new log, which is empty and behind logs with all entries, and an
--- edit behind the new MANIFEST, which is current, has this length, and says which logs are live.
+-- A record can be put after the new log, which is empty and after logs with all entries, and an
+-- edit after the new MANIFEST, which is current, has this length, and says which logs are live.
 pub record HasRewritten (order : Order) (files : Files) (found : Found) (end : ℕ) (tables : List TableContent) (entries : List Entry) (used : ℕ) : Type 0 where
   pub log : CanAppend order files (found.number + 1) 0 tables entries used
   pub before : List LogContent
@@ -147,7 +147,7 @@ pub record HasRewritten (order : Order) (files : Files) (found : Found) (end : �
   pub live : KeepsLogs found log.directory.layout.log_number log.directory.layout.previous_log_number
   pub forward : log.directory.layout.log_number ≤ found.number + 1
 
--- There is a database, which was rewritten, and the numbers from behind the new log on are free.
+-- There is a database, which was rewritten, and the numbers from after the new log on are free.
 pub record IsReady (order : Order) (old new : Files) (found : Found) (end : ℕ) : Type 0 where
   pub made : contains_key new (name_of Current) ≡ true
   pub ends : (tables : List TableContent) (entries : List Entry) (used : ℕ) → IsDirectoryOf order old tables entries used → HasRewritten order new found end tables entries used

@@ -1,5 +1,5 @@
--- What an open does to the store, one call behind the other: each step behind the one in front of
--- it, where that was done, or the calls ended there.
+-- What an open does to the store, one call after the other: each step after the one before it,
+-- where that was done, or the calls ended there.
 use Rattle.std.specs.Prelude.{◌≡◌, ◌⊎◌, ◌+◌, ℕ, false, List, [], Some, string_bytes}
 use Rattle.std.specs.FinMap.{get, contains_key}
 use Rattle.store.specs.Calls.{Adds, Idles}

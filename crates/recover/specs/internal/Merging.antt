@@ -45,12 +45,12 @@ MayFollow a b = a.entry.key ≡ b.entry.key → (b.entry.sequence < a.entry.sequ
 abbrev pub IsBroken : Came → Came → Type 0
 IsBroken a b = (a.entry.key ≡ b.entry.key) × ((b.entry.sequence < a.entry.sequence) × IsNoNewer a.level a.place b.level b.place → ⊥)
 
--- the second comes behind the first: its key does, or it is of the same key and may follow
+-- the second comes after the first: its key does, or it is of the same key and may follow
 abbrev pub ComesBehind : Order → Came → Came → Type 0
 ComesBehind order a b =
     (order.cmp a.entry.key b.entry.key ≡ Less) ⊎ ((a.entry.key ≡ b.entry.key) × ((b.entry.sequence < a.entry.sequence) × IsNoNewer a.level a.place b.level b.place))
 
--- what came, the last first: each behind all that came before it
+-- what came, the last first: each after all that came before it
 abbrev pub HaveCome : Order → List Came → Type 0
 HaveCome order [] = Unit {0}
 HaveCome order (last ∷ before) = ((a : Came) → Among before a → ComesBehind order a last) × HaveCome order before
@@ -72,14 +72,14 @@ pub record WasMerged (order : Order) (files : Files) (came : List Came) (place :
   pub has : HasTable order files (content_of placed entries)
   pub come : (entry : Entry) → Among entries entry → Among came (record { place = place; level = placed.level; entry = entry })
 
--- no table stands behind one of a deeper level
+-- no table stands after one of a deeper level
 abbrev pub AreByLevel : List PlacedTable → Type 0
 AreByLevel [] = Unit {0}
 AreByLevel (placed ∷ tables) = AllByRecursion (λ (other : PlacedTable). placed.level ≤ other.level) tables × AreByLevel tables
 
 -- ---- tables in the middle of their reading
 
--- the entry at hand comes in front of the other
+-- the entry at hand comes before the other
 abbrev pub IsHeadBefore : Order → Head → Head → Type 0
 IsHeadBefore order a b = ComesBefore order (stamp a.user.items a.sequence) (stamp b.user.items b.sequence)
 
@@ -88,7 +88,7 @@ abbrev pub IsLast : Last → List Came → Type 0
 IsLast last [] = last.some ≡ false
 IsLast last (c ∷ before) = (last.some ≡ true) × IsHead last.head c.entry × (c.place ≡ last.place) × (c.level ≡ last.level)
 
--- what an entry of this key and sequence number doesn't stand in front of, if it is there
+-- what an entry of this key and sequence number doesn't stand before, if it is there
 abbrev pub IsNotBefore : Order → Last → Entry → Type 0
 IsNotBefore order last entry = last.some ≡ true → ComesBefore order entry (stamp last.head.user.items last.head.sequence) → ⊥
 
@@ -134,15 +134,14 @@ pub record IsMerging {K : Type 0} (order : Order) (files : Files) (logged : List
 -- ---- which entry comes next
 
 -- of the first lanes, so many, none stands; or the one at this index stands, and none that does
--- comes in front of it
+-- comes before it
 abbrev pub IsLeastOf : {K : Type 0} → Order → List (Lane K) → ℕ → Option ℕ → Type 0
 IsLeastOf {K} order lanes count None = (i : ℕ) (lane : Lane K) → i < count → slice_get lanes i ≡ Some lane → lane.stands ≡ true → ⊥
 IsLeastOf {K} order lanes count (Some at) =
     (lane : Lane K) × (slice_get lanes at ≡ Some lane) × (lane.stands ≡ true)
     × ((j : ℕ) (other : Lane K) → j < count → slice_get lanes j ≡ Some other → other.stands ≡ true → IsHeadBefore order other.walk.head lane.walk.head → ⊥)
 
--- behind the last entry, in front of which it doesn't stand, the one at which the lane stands may
--- come
+-- after the last entry, before which it doesn't stand, the one at which the lane stands may come
 abbrev pub MayComeNext : {K : Type 0} → Last → Lane K → Type 0
 MayComeNext last lane = last.some ≡ true → last.head.user.items ≡ lane.walk.head.user.items
     → (lane.walk.head.sequence < last.head.sequence) × IsNoNewer last.level last.place lane.level lane.place
@@ -204,7 +203,7 @@ IsNotOlder logged key sequence =
 
 -- ---- which table is begun next
 
--- the key comes in front of that of the best one, if there is one
+-- the key comes before that of the best one, if there is one
 abbrev pub IsSooner : Order → InternalKey → Option (ℕ × InternalKey) → Type 0
 IsSooner order key None = Unit {0}
 IsSooner order key (Some best) = ComesBefore order (stamp key.user.now key.sequence) (stamp best.1.user.now best.1.sequence)
@@ -215,15 +214,14 @@ DoesWait tables begun place key =
     (placed : PlacedTable) × (slice_get tables place ≡ Some placed) × (slice_get begun place ≡ Some false) × IsKey placed.table.smallest key
 
 -- Of the first tables, so many, none waits; or the one at this place waits with this key, and none
--- does in front of it.
+-- does before it.
 abbrev pub IsSoonestOf : Order → List PlacedTable → List Bool → ℕ → Option (ℕ × InternalKey) → Type 0
 IsSoonestOf order tables begun count None = (place : ℕ) (key : Key) → place < count → DoesWait tables begun place key → ⊥
 IsSoonestOf order tables begun count (Some best) = DoesWait tables begun best.0 (key_of best.1)
     × ((place : ℕ) (key : Key) → place < count → DoesWait tables begun place key
     → ComesBefore order (stamp key.user key.sequence) (stamp best.1.user.now best.1.sequence) → ⊥)
 
--- none of the tables waits; or the one at this place waits with this key, and none does in front of
--- it
+-- none of the tables waits; or the one at this place waits with this key, and none does before it
 abbrev pub IsSoonest : Order → List PlacedTable → List Bool → Option (ℕ × InternalKey) → Type 0
 IsSoonest order tables begun None = (place : ℕ) (placed : PlacedTable) (key : Key)
     → slice_get tables place ≡ Some placed → slice_get begun place ≡ Some false → IsKey placed.table.smallest key → ⊥
@@ -234,7 +232,7 @@ IsSoonest order tables begun (Some best) =
     → IsKey other.table.smallest key
     → ComesBefore order (stamp key.user key.sequence) (stamp best.1.user.now best.1.sequence) → ⊥)
 
--- the key at hand comes in front of the bound, if there is one
+-- the key at hand comes before the bound, if there is one
 abbrev pub IsWithin : Order → Head → Option InternalKey → Type 0
 IsWithin order head None = Unit {0}
 IsWithin order head (Some key) = ComesBefore order (stamp head.user.items head.sequence) (stamp key.user.now key.sequence)

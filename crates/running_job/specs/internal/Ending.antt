@@ -35,13 +35,13 @@ EndLeaves order old new next last_sequence manifest tables work result =
     IsTrue new.faithful → (whole : Whole) (d : Directory) (came : List InternalEntry) → whole.seen.facts ≡ old → (can : CanEnd order whole next last_sequence manifest tables d work came)
     → InstallMeans order (deep_of order.cmp work) work.job old.files new.files next manifest tables came d can.running.inputs can.running.rest result
 
--- A stop in its middle leaves what a failure of the device at the edit does.
+-- A process crash in its middle leaves what a failure of the device at the edit does.
 abbrev pub EndMayLeave : {K : Type 0} {g : _} → Order → Facts → ℕ → ℕ → CurrentManifest → List PlacedTable → OpenJob K g → Files → Type 0
 EndMayLeave order old next last_sequence manifest tables work new =
     (whole : Whole) (d : Directory) (came : List InternalEntry) → whole.seen.facts ≡ old → (can : CanEnd order whole next last_sequence manifest tables d work came)
     → MayBeInstalled order (deep_of order.cmp work) work.job.plan.output_level work.job.selection.snapshots old.files new next came d can.running.inputs can.running.rest
 
--- And each table of what a stop leaves was there before, or is one that the job wrote.
+-- And each table of what a process crash leaves was there before, or is one that the job wrote.
 abbrev pub EndMayPutOwn : {K : Type 0} {g : _} → Order → Facts → ℕ → ℕ → CurrentManifest → List PlacedTable → OpenJob K g → Files → Type 0
 EndMayPutOwn order old next last_sequence manifest tables work new =
     (whole : Whole) (d : Directory) (came : List InternalEntry) → whole.seen.facts ≡ old → CanEnd order whole next last_sequence manifest tables d work came → PutsOwn order work.job.outputs new d
@@ -90,7 +90,7 @@ EndPutsOwn order old new ideal after next last_sequence manifest tables work res
     → (e : Directory) → IsConsistent order after e → (placed : PlacedTable) → Contains e.layout.tables.items placed
     → Contains d.layout.tables.items placed ⊎ (IsOwn work.job.outputs placed.table.number × ((file : List ℕ) × (get new.files (table_name placed.table.number) ≡ Some file)))
 
--- And a stop in its middle leaves what a failure of the device at the edit does.
+-- And a process crash in its middle leaves what a failure of the device at the edit does.
 abbrev pub EndMayLeaveOver : {K : Type 0} {g : _} → Order → Facts → Files → Files → ℕ → ℕ → CurrentManifest → List PlacedTable → OpenJob K g → Type 0
 EndMayLeaveOver order old ideal after next last_sequence manifest tables work =
     (d : Directory) (came : List InternalEntry) (inputs rest : List TableContent) → CanEndOver order old ideal next last_sequence manifest tables d work came inputs rest

@@ -47,7 +47,7 @@ abbrev pub KeepsSound : {K : Type 0} {g : _} → Order → Whole → Whole → �
 KeepsSound order old new next before = IsTrue new.seen.facts.faithful → (contents : List TableContent) (came left : List InternalEntry)
     → MayRun order old next contents before came left → IsSound order.cmp old.seen → IsSound order.cmp new.seen
 
--- A stop in its middle leaves the directory, too.
+-- A process crash in its middle leaves the directory, too.
 abbrev pub StepStops : {K : Type 0} {g : _} → Order → Whole → Whole → ℕ → OpenJob K g → Type 0
 StepStops order old new next before = IsTrue new.seen.facts.faithful → (d : Directory) (came left : List InternalEntry)
     → CanStep order old next d before came left → LeavesOnly old.seen.facts new.seen.facts (λ files. IsConsistent order files d)

@@ -53,7 +53,7 @@ returns-in_err-state-clause-loses g c f ids m undamaged r =
 pub returns-in_err-state-clause-loses_on : goal.returns-in_err-state-clause-loses_on
 returns-in_err-state-clause-loses_on g c f ids m undamaged r = c.in_err-state.ensures.loses_on f
 
--- ---- behind the syncs of the logs in front, accepted or not
+-- ---- after the syncs of the logs in front, accepted or not
 
 abbrev old_in : (g : Over) → After-keep_front g → Facts
 old_in g c = g.S.Store.facts c.args.source.now.tables.store
