@@ -115,7 +115,7 @@ IsLimited limited job source = limited job.cursor source
 abbrev pub ReadsIntact : {K C H : Type 0} → (C → H → Cut → Type 0) → Job K C → H → Type 0
 ReadsIntact torn job source = (cut : Cut) → torn job.cursor source cut → ⊥
 
--- All that came was merged into these tables, and the edit puts them in the place of the inputs.
+-- All that came was merged into these tables, and the edit puts them instead of the inputs.
 abbrev pub IsFinished : Cmp → (List ℕ → Bool) → JobPlan → List ℕ → Choosing → Facts → ℕ → ℕ → List InternalEntry → List Field → Type 0
 IsFinished cmp deep plan last c facts next last_sequence came edit =
     (tables : List TableFile) × IsEditOf plan.output_level plan.inputs.items plan.compact_pointer tables next last_sequence edit

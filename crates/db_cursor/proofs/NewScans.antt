@@ -393,7 +393,7 @@ module _ {K : Type 0} {g : _} (order : Order) (whole : Whole) (tables : List Pla
     },
   )
 
-  -- so it is where the lists are searched one after the other, since they have a union
+  -- the same holds if the lists are searched one after the other, since they have a union
   pub merge_begun : HaveUnions order.cmp → (children : List (Child (SourceCursor K g))) (target : List ℕ) (lists : List (List InternalEntry)) → AllByRecursion (λ (child : Child (SourceCursor K g)). child.side ≡ Astray) children
       → AllTwo Lists (cursors_of children) lists → AreSearched (all_entries lists) → (union : List InternalEntry) × IsUnion order.cmp lists union × IsMerge order.cmp (ListsSource order.cmp) children None target whole (listed union None)
   merge_begun unions children target lists astray both searched =

@@ -28,7 +28,7 @@ pub record HasOrigin (cmp : Cmp) (files ideal : Files) (placed : PlacedTable) : 
   pub ideal_there : table_at ideal placed.table.number ≡ Some whole
   pub origin : MayComeFrom cmp placed bytes whole
 
--- so it is of each of these tables
+-- the same holds of each of these tables
 abbrev pub HaveOrigins : Cmp → Files → Files → List PlacedTable → Type 0
 HaveOrigins cmp files ideal tables = (placed : PlacedTable) → Contains tables placed → HasOrigin cmp files ideal placed
 

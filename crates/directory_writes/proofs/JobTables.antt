@@ -1,4 +1,4 @@
--- The tables of a directory with the outputs of a job in the place of its inputs.
+-- The tables of a directory with the outputs of a job instead of its inputs.
 use Rattle.std.proofs.Common.{◌≡◌, ◌≢◌, ◌==◌, ◌&&◌, ◌⊎◌, ◌<◌, ℕ, zero, suc, Bool, true, false, cond, Option, Some, None, option_and_then, option_map, List, [], ◌∷◌, ◌++◌, map, inl, inr, refl, sym, ap, subst, ◌∙◌, arith, append_assoc, append-nil}
 use Rattle.std.proofs.lemmas.Bool.{and_right, ne_eqb}
 use Rattle.std.proofs.lemmas.Bool.Decides.{nat_tests}

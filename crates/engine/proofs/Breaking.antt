@@ -113,7 +113,7 @@ inner e x is = cc
 pub handed_on : {T U : Type 0} (e : DbError) (r : Result U DbError) → r ≡ Err e → IsIo {T = T} (Err e) → IsIo r
 handed_on {T} e r is io = is ∙ ap (λ (x : DbError). Err x) (inner {T = T} e error.Io io)
 
--- so it is where a file couldn't be removed either
+-- the same holds if a file couldn't be removed either
 pub refused_io : {T U : Type 0} (complete : Bool) (e r : DbError) → r ≡ refused_as complete e → IsIo {T = T} (Err e) → IsIo {T = U} (Err r)
 refused_io {T} complete e r is io = ap (λ (x : DbError). Err x) (is ∙ ap (refused_as complete) (inner {T = T} e error.Io io))
 

@@ -319,7 +319,7 @@ module _ {K : Type 0} {g : _} (order : Order) (old new : Whole) (next more : ℕ
           intact = intact_still leaves;
         }
 
-    -- so it is where the directory has the same tables
+    -- the same holds if the directory has the same tables
     pub goes_beside_read : next ≤ more → KeepsJobTables → (IsSound order.cmp old.seen → IsSound order.cmp new.seen) → ((number : ℕ) → KeepsOf new.seen number → KeepsOf old.seen number ⊎ ((number < next) × (IsOwn work.job.outputs number → ⊥)))
         → IsSameChange old.seen.facts.files new.seen.facts.files ideal after → e.tables ≡ d.tables → e.layout.tables.items ≡ d.layout.tables.items → e.manifest ≡ d.manifest → old.memory.last ≤ new.memory.last → AreKnown snapshots old.memory.last kept → HaveKnown iterators tables open_ones
         → ((number : ℕ) → ListsNumber tables number → IsOwn work.job.outputs number → ⊥) → IsCompacting order damaged new after more kept open_ones e work

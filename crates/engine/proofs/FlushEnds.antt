@@ -219,7 +219,7 @@ module _ {K : Type 0} {g : _} (order : Order) (kept : (scan : Scan K g) → Scan
         serving_unflushed order kept one lasts law flushes old facts before m serving plan numbers.next (stays_below m serving f) (names_below m serving f) (sound_still m serving f) left.1.can.free upto.1 drawn.directory entries left.1 refl refl refl refl refl refl upto.0 (unflushed_synced f carries m serving (spares f)) (logs_left f m serving) (named_still m serving f (carries f)),
       ))
 
-  -- the device failed
+  -- the store failed
   failed : {T : Type 0} → old.facts.failures < facts.failures
       → (IsTrue facts.faithful → (m : Machine) (serving : IsServing order old before m) → MayBeFlushed order serving.ideal (behind m serving) next numbers.next entries serving.log.directory.directory serving.log.logs.sealed serving.log.logs.current)
       → LeadsOpen order old new ids before (open_db memory (record drawn { broken = true })) (λ m n. IsPiece {T = T} m 1 (Err error.Io) n)

@@ -270,7 +270,7 @@ syncs_behind sync old mid new names name bytes result h a s = record {
   locked = s.locked ∙ h.these.locked;
 }
 
--- want of memory leaves what was synced of each, or all of it is synced
+-- out of memory, a call leaves what was synced of each, or all of it is synced
 pub memory_keeps : (sync : Bool) (old mid new : Facts) (names : List (List ℕ)) (name bytes : List ℕ) (result : Result (Unit {0}) LogError) → SyncsThese names old mid → AppendsRecord mid new name bytes result
     → SyncsLog (Unit {0}) (sync ≡ true) sync name [] mid new result → IsTrue new.faithful → result ≡ Err Memory → (q : List ℕ) → LeavesOrSyncs old new q
 memory_keeps sync old mid new names name bytes (Ok x) h a s f is q = absurd (cc)
@@ -316,7 +316,7 @@ pub stood_behind : (old mid new : Facts) (result : Result (Unit {0}) LogError) �
 stood_behind old mid new (Ok x) first second = second ∙ first
 stood_behind old mid new (Err e) first second = tt
 
--- the call that was accepted last
+-- the call that succeeded last
 pub ends_so : (mid new : Facts) (name : List ℕ) (r : Result (Unit {0}) StoreError) → is_err r ≡ false → OnOk r (Adds mid new (Sync name)) → EndsInSync new
 ends_so mid new name r went noted = (let adds = done_of r went noted in (mid.calls, record { found = disk_of mid; change = Sync name }, adds.0, refl))
 

@@ -269,7 +269,7 @@ module _ (order : Order) (old : Files) (found : Found) (rewrite : Rewrite) (usab
     ]
   ]
 
-  -- the new log is live there
+  -- the new log is in use there
   pub live_renewed : (files : Files) (d : Directory) → IsConsistent order files d → get files (name_of Current) ≡ Some rewrite.current.items → get files (name_of (Manifest k)) ≡ Some rewrite.manifest.items → IsLive d.layout (k + 1)
   live_renewed files d good set there =
       let same = same_manifest order files d.manifest k d.edits (w.edit ∷ []) d.layout w.layout good.manifest (manifest_in files set there) in

@@ -210,6 +210,6 @@ settles_broken m s h = at m.in_doubt h
     at (Some operations) (inl is) = ap (λ (x : Machine). x.broken) is
     at (Some operations) (inr is) = ap (λ (x : Machine). x.broken) is
 
--- One that was accepted serves.
+-- One that succeeded serves.
 pub opened_serves : (m n : Machine) → Opened m n → (n.opened ≡ true) × (n.broken ≡ m.broken)
 opened_serves m n h = (ap (λ (x : Machine). x.opened) h.3, ap (λ (x : Machine). x.broken) h.3 ∙ settles_broken m h.0 h.1)

@@ -145,7 +145,7 @@ module _ {K : Type 0} {g : _} (order : Order) (kept : (scan : Scan K g) → Scan
   abbrev pub ended_by : Machine
   ended_by = drawing m 0 facts
 
-  -- ---- the outputs are in the place of the inputs
+  -- ---- the outputs are instead of the inputs
 
   module _ (files : Files) (has : HasInstalled order (deep_of order.cmp work) work.job.plan.output_level work.job.selection.snapshots serving.ideal files c.came d c.running.inputs c.running.rest) where
     abbrev installed_as : Directory

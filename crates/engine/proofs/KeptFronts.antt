@@ -76,7 +76,7 @@ grown_left a b q bytes held synced files (inl left) sound there kept is = kept s
 grown_left a b q bytes held synced files (inr whole) sound there kept is =
     begins_both bytes held synced (kept held (whole ∙ there)) (sound q held synced (sym (ap (λ (fs : Files). get fs q) files) ∙ there) is)
 
--- After a sync that was accepted, a loss until the next call is one before it.
+-- After a sync that succeeded, a loss until the next call is one before it.
 pub lost_grown : (a b : Facts) (lost : Files) → b.files ≡ a.files → ((q : List ℕ) → LeavesOrSyncs a b q) → SyncsBeginnings a → behind_sync [] b.calls ≡ [] → Lost b (moment b) lost → Lost a (moment a) lost
 lost_grown a b lost files leaves sound ends h =
     let since : IsLost b.files [] (disk_of b) lost = subst (λ (calls : List Call). IsLostSince calls (disk_of b) lost) ends (lost_here b lost h) in
@@ -247,7 +247,7 @@ module _ {K : Type 0} {g : _} (order : Order) (law : SoundStays) (old : Facts) (
   abbrev kept : Seen
   kept = record mid { facts = facts }
 
-  -- An open that was accepted is so after them.
+  -- An open that succeeded is so after them.
   pub leads_kept : (ids : Ids) (x : Unit {0}) → SyncsFront (map string_bytes db.log.front.items) mid.facts facts (Ok x) → (IsTrue facts.faithful → CarriesBut mid.facts facts (λ (q : List ℕ). ⊥))
       → log.number ≡ db.log.number → log.name ≡ db.log.name → log.end ≡ db.log.end → log.front.items ≡ []
       → Leads old mid.facts (Rests order old ids) (StandsOpen order mid ids db) (λ m n. Opens m mode Done n)
@@ -320,7 +320,7 @@ outcome_starved old new stood denials = record {
 
 -- ---- of a session
 
--- It says nothing of an open that was refused.
+-- It says nothing of an open that failed.
 pub kept_refused : {K : Type 0} {g : _} (facts : Facts) (state : Option (OpenDb K g)) (e : DbError) → KeptOver facts state (Refused e)
 kept_refused facts None e = tt
 kept_refused facts (Some db) e = tt

@@ -61,7 +61,7 @@ module _ {K : Type 0} {g : _} (order : Order) (kept : (scan : Scan K g) → Scan
   MayLeave files =
       MayBeInstalled order (deep_of order.cmp work) work.job.plan.output_level work.job.selection.snapshots serving.ideal files db.directory.numbers.next c.came d c.running.inputs c.running.rest × PutsOwn order work.job.outputs files d
 
-  -- ---- a directory with the outputs in the place of the inputs
+  -- ---- a directory with the outputs instead of the inputs
 
   module _ (mid : Facts) (can : CanLose order mid db d m) (stayed : HaveStayed mid db.directory db.tables) (same : serving.ideal ≡ old.facts.files) (outputs : AreOutputsKept order.cmp work.job old.facts db.directory.numbers.next mid) where
     whole : (number : ℕ) → IsOwn work.job.outputs number → (file : List ℕ) × (get mid.files (name_of (Table number)) ≡ Some file) × (mid.synced (name_of (Table number)) ≡ Some file)

@@ -135,7 +135,7 @@ continued_loses order old new m means h =
 pub unwritten_means : (order : Order) (old : Facts) (m : Machine) → MeansAccepted order old.files m → HaveNamesStayed old → LosesMeaning order old old m
 unwritten_means order old m means stays = continued_loses order old old m means (unwritten_loses order old old refl refl refl stays)
 
--- ---- files that aren't live are removed after it
+-- ---- obsolete files are removed after it
 
 each_left : (facts : Facts) (lost : Files) (logs : List LogContent) → ((n : ℕ) → InLogs logs n → get lost (name_of (Log n)) ≡ get facts.files (name_of (Log n))) → AllByRecursion (IsLeft facts lost) logs
 each_left facts lost [] same = tt

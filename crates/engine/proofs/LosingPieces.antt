@@ -61,7 +61,7 @@ first_same order source ids db m new s whole calls files synced =
     loses_same source.facts new (λ lost. SparesFound source.facts db lost → HoldsFirst order lost m) calls files synced
     (first_serving order source db m serving refl)
 
--- ---- files that aren't live
+-- ---- obsolete files
 
 module _ {K : Type 0} {g : _} (order : Order) (source : Seen) (ids : Ids) (db : OpenDb K g) (m : Machine) (new : Facts) (s : StandsWhole order source ids db m) (whole : db.broken ≡ false) where
   abbrev Dead : List ℕ → Type 0

@@ -50,8 +50,8 @@ in_pushed [] log n (inr none) = absurd none
 in_pushed (x ∷ logs) log n (inl is) = inl (inl is)
 in_pushed (x ∷ logs) log n (inr i) = elim (in_pushed logs log n i) [ inl there ↦ inl (inr there) | inr is ↦ inr is ]
 
--- The log of the next number was created. What is synced of it isn't known, where the device
--- failed: less is left where nothing is.
+-- The log of the next number was created. What is synced of it isn't known, if the store failed:
+-- less is left where nothing is.
 module _ {K : Type 0} {g : _} (order : Order) (source : Seen) (db : OpenDb K g) (m : Machine) (serving : IsServing order source db m) (same : serving.ideal ≡ source.facts.files)
     (facts : Facts) (numbers : FileNumbers) (next_is : numbers.next ≡ db.directory.numbers.next + 1) (few : db.directory.numbers.next < 2 ^ 62)
     (adds : Adds source.facts facts (Creation (name_of (Log db.directory.numbers.next)))) (stays : (q : List ℕ) → q ≢ name_of (Log db.directory.numbers.next) → facts.synced q ≡ source.facts.synced q)

@@ -33,7 +33,7 @@ same_begins a b is = ([], is ∙ sym (append-nil b))
 pub begins_both : (a b c : List ℕ) → BeginsWith a b → BeginsWith b c → BeginsWith a c
 begins_both a b c h k = (k.0 ++ h.0, h.1 ∙ ap (λ (bytes : List ℕ). bytes ++ h.0) k.1 ∙ append_assoc c k.0 h.0)
 
--- so it is where the file is synced whole
+-- the same holds if the file is synced whole
 pub sound_kept : (facts : Facts) (q : List ℕ) → IsKept facts q → SyncsBeginning facts q
 sound_kept facts q kept held synced there is = (let both : Some held ≡ Some synced = sym (kept held there) ∙ is in let same : held ≡ synced = cc in same_begins held synced same)
 

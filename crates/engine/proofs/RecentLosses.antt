@@ -163,8 +163,8 @@ module _ (order : Order) (facts : Facts) (lost : Files) (least : ℕ) (tables : 
         ]
   ]
 
-  -- at the sequence number of the last batch that is left the map is seen, and so it is at any
-  -- other that is above all that is left
+  -- at the sequence number of the last batch that is left the map is seen, and the same holds at
+  -- any other that is above all that is left
   view_then : entries ≡ tabled tables ++ logged d.logs → IsView (tabled tables ++ logged logs) reached map_then
   view_then are =
       earlier_entries (tabled tables ++ logged logs) (batch_entries gone.0) reached map_then (λ e i. logged_above reached gone.0 (drop (length remaining) operations) s.second e i)

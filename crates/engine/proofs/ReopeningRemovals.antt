@@ -1,5 +1,5 @@
--- What a power loss leaves while an open that was accepted removes the files that aren't live: what
--- it left before the open.
+-- What a power loss leaves while an open that succeeded removes the obsolete files: what it left
+-- before the open.
 use Rattle.std.proofs.Common.{◌≡◌, ◌≢◌, ◌⊎◌, ◌<◌, ◌≤◌, ◌+◌, ◌++◌, ◌∷◌, ℕ, Bool, false, true, IsTrue, List, [], Option, Some, None, if◌then◌else◌, is_some, map, string_bytes, inl, inr, refl, sym, ap, subst, ◌∙◌, arith, append-nil, append_assoc}
 use Rattle.std.specs.FinMap.{contains_key, get}
 use Rattle.std.specs.List.{AllByRecursion}

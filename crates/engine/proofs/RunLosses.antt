@@ -146,7 +146,7 @@ serving_within : {K : Type 0} {g : _} (order : Order) (source : Seen) (ids : Ids
 serving_within order source ids db m since bound undamaged s whole is stays lost h spares =
     serving_here order source ids db m undamaged s whole lost h (subst (λ (n : ℕ). SparesBelow source.facts n lost) (sym is) (spares_now since source.facts bound lost stays spares))
 
--- After an open that was accepted, and at the begin.
+-- After an open that succeeded, and at the begin.
 pub begin_anew : {K : Type 0} {g : _} (order : Order) (source : Seen) (ids : Ids) (db : OpenDb K g) (m : Machine) (spares : Files → Type 0) → m.damaged ≡ false → StandsOpen order source ids db m → db.broken ≡ false → IsSome (get source.facts.files lock_name)
     → ((lost : Files) → spares lost → SparesFound source.facts db lost) → Between order source.facts (Some db) m spares
 begin_anew order source ids db m spares undamaged s whole lock spared =
@@ -273,7 +273,7 @@ refused_goes order old new before after m n mode a spares b more calls loses loc
       },
     )
 
--- one that was accepted, where a loss has to spare what it couldn't remove
+-- one that succeeded, where a loss has to spare what it couldn't remove
 pub accepted_goes : {K : Type 0} {g : _} (order : Order) (old : Facts) (new : Seen) (given : Ids) (before : Option (OpenDb K g)) (db : OpenDb K g) (m n : Machine) (mode : Mode) (spares : Files → Type 0) → Between order old before m spares
     → (more : List Call) → new.facts.calls ≡ old.calls ++ more → LosesOn order old new.facts → SyncsBeginnings new.facts → HasKeptLogs new.facts db.directory → IsFresh db → IsSome (get new.facts.files lock_name)
     → old.failures ≤ new.facts.failures → (new.facts.failures ≡ old.failures → HasLiveOnly new.facts.files db)

@@ -49,7 +49,7 @@ spares_tables mine files log state tables names others placed = record {
 pub not_dead : (live : FileName → Type 0) (file : FileName) → IsFileName file → live file → IsDead live (name_of file) → ⊥
 not_dead live file is alive dead = dead.3 (subst live (one_file file dead.0 is dead.1 dead.2) alive)
 
--- what isn't live isn't read
+-- what is obsolete isn't read
 pub spares_dead : (files : Files) (log : CurrentLog) (state : DirectoryState) (tables : List PlacedTable) (in_use : ℕ → Type 0) → HaveNames log state tables → ((placed : PlacedTable) → Contains tables placed → in_use placed.table.number)
     → SparesRead (IsDead (IsLiveAmong files (numbers_of state) in_use)) files state tables
 spares_dead files log state tables in_use names used =

@@ -36,7 +36,7 @@ use Rattle.engine.proofs.StopSteps.{means_over}
 
 -- ---- the record of a batch
 
--- what is left is what a failure of the device leaves
+-- what is left is what a failure of the store leaves
 pub stopped_append : (old : Facts) (files : Files) (name bytes : List ℕ) → IsTrue old.faithful → AppendsBeginning old.files files name bytes → AppendsRecord old (stopped_at old files) name bytes (Err Device)
 stopped_append old files name bytes faithful left = record {
   faithful = λ f. faithful;

@@ -74,7 +74,7 @@ more_left {K} {g} order old mid db work more next budget progress is going goes 
 
 -- ---- the files of its tables
 
--- those of the tables of the version stay where only what isn't live is removed
+-- those of the tables of the version stay where only what is obsolete is removed
 pub tables_stay : {K : Type 0} {g : _} (order : Order) (old new : Seen) (before between : OpenDb K g) → between.tables ≡ before.tables → between.job ≡ before.job → between.iterators ≡ before.iterators → before.broken ≡ false
     → LosesDead old.facts new.facts between → KeepsTableFiles order old new before
 tables_stay order old new before between tables job iterators whole loses ids m s number has =

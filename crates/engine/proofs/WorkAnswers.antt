@@ -72,7 +72,7 @@ module _ {K : Type 0} {g : _} (order : Order) (old mid new : Seen) (ids : Ids) (
         (two.0, pieces_on m one.0 two.0 few most done result one.1 two.1, two.2);
   }
 
--- want of memory where the store failed
+-- out of memory where the store failed
 as_failure : {T : Type 0} (m n : Machine) (most : ℕ) (complete : Bool) (e : DbError) → (complete ≡ false → m.failures < n.failures) → IsPiece {T = T} m most (Err e) n → IsPiece {T = T} m most (Err (refused_as complete e)) n
 as_failure m n most complete e rose piece = record { failures = piece.failures; denials = piece.denials; what = at e complete rose piece.what }
   where

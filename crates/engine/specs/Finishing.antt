@@ -46,7 +46,7 @@ pub record HasNoMemory {K : Type 0} {g : _} (db : OpenDb K g) : Type 0 where
   pub current : db.memory.current.inserts ≡ []
   pub sealed : db.memory.sealed ≡ None
 
--- So it is, and all tables stand in the last level.
+-- That holds, and all tables stand in the last level.
 pub record IsAllCompacted {K : Type 0} {g : _} (db : OpenDb K g) : Type 0 where
   pub memory : HasNoMemory db
   pub levels : (level : ℕ) → level < 6 → tables_at level db.tables ≡ []

@@ -33,7 +33,7 @@ abbrev pub SparesUnread : Order → Facts → Files → Type 0
 SparesUnread order facts lost = (d : Directory) → IsConsistent order facts.files d → (n : ℕ) → IsNumbered n → n < d.manifest
     → (q : List ℕ) → IsNameOf n q → (IsReadIn facts.files d q ⊎ IsLogIn d q → ⊥) → IsLeftWhole facts lost q
 
--- What a loss has to spare after a command: after an open that was accepted, though a call of the
+-- What a loss has to spare after a command: after an open that succeeded, though a call of the
 -- store failed, what that couldn't remove, too.
 abbrev pub sparing : Order → Op → Answer → Facts → Facts → (Files → Type 0) → Files → Type 0
 sparing order (Open mode) Done old new spares lost = spares lost × (old.failures < new.failures → SparesUnread order new lost)
@@ -62,7 +62,7 @@ LosesEach order spares m old new (command ∷ commands) (answer ∷ answers) =
 LosesEach order spares m old new [] (answer ∷ answers) = ⊥
 LosesEach order spares m old new (command ∷ commands) [] = ⊥
 
--- So it is from each state without damage of a session with an open database that isn't broken,
+-- That holds from each state without damage of a session with an open database that isn't broken,
 -- whose store has the lock's file: of the files that were there before its open each that isn't
 -- known to be synced is left whole, or removed.
 abbrev pub SessionLosesRun : {S K : Type 0} {g : _} → Order → (S → Facts) → List Op → List Answer → Session S K g → Session S K g → Type 0

@@ -38,7 +38,7 @@ pub record HasSyncedLog {K : Type 0} {g : _} (facts : Facts) (db : OpenDb K g) :
   pub ends : EndsInSync facts
   pub whole : db.broken ≡ false
 
--- So it is after a write that asks for it, where it is accepted.
+-- The same holds after a write that asks for it, if it succeeds.
 abbrev pub SyncsLogs : {K T : Type 0} {g : _} → Type 0 → Facts → OpenDb K g → Result T DbError → Type 0
 SyncsLogs asked new after result = IsTrue new.faithful → asked → OnOk result (HasSyncedLog new after)
 
@@ -54,7 +54,7 @@ LeavesFound files lost db = (n : ℕ) → IsNumbered n → n < db.directory.mani
 abbrev pub Outlasts : {K : Type 0} {g : _} → Order → Facts → OpenDb K g → Machine → Type 0
 Outlasts order facts db m = (lost : Files) → Lost facts (moment facts) lost → LeavesFound facts.files lost db → Holds order lost m
 
--- So it is after a write that asks for it, where it is accepted: of whatever the database stands
+-- The same holds after a write that asks for it, if it succeeds: of whatever the database stands
 -- for then.
 abbrev pub DbOutlasts : {S K T : Type 0} {g : _} → Type 0 → Order → (S → Facts) → Db S K g → Result T DbError → Type 0
 DbOutlasts asked order facts new result =
@@ -62,7 +62,7 @@ DbOutlasts asked order facts new result =
 
 -- ---- of a session
 
--- So it is of one whose write was answered so.
+-- The same holds of one whose write was answered so.
 abbrev pub OutlastsOver : {K : Type 0} {g : _} → Type 0 → Order → Seen → Ids → Option (OpenDb K g) → Answer → Type 0
 OutlastsOver asked order source ids None answer = Unit {0}
 OutlastsOver asked order source ids (Some db) answer =
@@ -88,7 +88,7 @@ pub record LeavesCut (order : Order) (facts : Facts) (lost : Files) : Type 0 whe
   pub left : IsConsistent order lost (record directory { logs = logs })
 
 -- Those of the logs that were there before the open are left as they are which the device isn't
--- known to have whole. (An accepted open has it keep them all: HasKeptLogs.)
+-- known to have whole. (An open that succeeds has it keep them all: HasKeptLogs.)
 abbrev pub LeavesFoundLogs : {K : Type 0} {g : _} → Files → Files → OpenDb K g → Type 0
 LeavesFoundLogs files lost db = (n : ℕ) → IsNumbered n → n < db.directory.manifest.number → Contains (map string_bytes db.log.front.items) (name_of (Log n))
     → get lost (name_of (Log n)) ≡ get files (name_of (Log n))
@@ -112,7 +112,7 @@ LosesEnds order facts db m = db.broken ≡ false → (lost : Files) → Lost fac
 abbrev pub DbLosesEnds : {S K : Type 0} {g : _} → Order → (S → Facts) → Db S K g → Type 0
 DbLosesEnds order facts db = (m : Machine) → m.damaged ≡ false → StandsDb order facts db m → LosesEnds order (facts (db_store_of db)) (open_by db) m
 
--- So it is of one that is open in a session.
+-- The same holds of one that is open in a session.
 abbrev pub LosesEndsOver : {K : Type 0} {g : _} → Order → Seen → Ids → Option (OpenDb K g) → Type 0
 LosesEndsOver order source ids None = Unit {0}
 LosesEndsOver order source ids (Some db) = (m : Machine) → m.damaged ≡ false → StandsOver order source ids (Some db) m → LosesEnds order source.facts db m
@@ -136,7 +136,7 @@ SparesFound facts db lost = SparesBelow facts db.directory.manifest.number lost
 abbrev pub LosesFirst : {K : Type 0} {g : _} → Order → Facts → Facts → OpenDb K g → Machine → Type 0
 LosesFirst order old new db m = LosesOnly old new (λ lost. SparesFound old db lost → HoldsFirst order lost m)
 
--- While the store is faithful, so it is from each state without damage of a database that isn't
+-- While the store is faithful, that holds from each state without damage of a database that isn't
 -- broken.
 abbrev pub DbLosesTo : {S K : Type 0} {g : _} → Order → (S → Facts) → Db S K g → Facts → Type 0
 DbLosesTo order facts old new = IsTrue new.faithful → (m : Machine) → m.damaged ≡ false → StandsDb order facts old m → (open_by old).broken ≡ false
@@ -166,7 +166,7 @@ abbrev pub with_written : Machine → Op → Machine
 with_written m (Write operations sync) = accepted m operations.items false
 with_written m _ = m
 
--- So it is of a command to an open database that isn't broken.
+-- The same holds of a command to an open database that isn't broken.
 abbrev pub LosesOver : {K : Type 0} {g : _} → Order → Facts → Facts → Option (OpenDb K g) → Machine → Type 0
 LosesOver order old new None m = Unit {0}
 LosesOver order old new (Some db) m = db.broken ≡ false → LosesFirst order old new db m

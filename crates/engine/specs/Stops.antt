@@ -27,7 +27,7 @@ LeftByWrite order m operations files =
     MatchBool m.broken (HoldsAccepted order files m)
     (MatchBool m.opened (Holds order files m ⊎ Holds order files (accepted m operations false)) (HoldsAccepted order files m))
 
--- Every other command leaves those of what was accepted: an open, too, and one that is refused.
+-- Every other command leaves those of what was accepted: an open, too, and one that fails.
 abbrev pub LeftBy : Order → Machine → Op → Files → Type 0
 LeftBy order m (Write operations sync) files = LeftByWrite order m operations.items files
 LeftBy order m _ files = HoldsAccepted order files m
@@ -39,7 +39,7 @@ LeftBy order m _ files = HoldsAccepted order files m
 abbrev pub StopsKeeping : Order → Machine → Facts → Facts → Type 0
 StopsKeeping order m old new = LeavesOnly old new (λ files. HoldsAccepted order files m)
 
--- While the store is faithful, so it is from each state without damage that the session may have
+-- While the store is faithful, that holds from each state without damage that the session may have
 -- been in.
 abbrev pub SessionStops : {S K : Type 0} {g : _} → Order → (S → Facts) → Session S K g → Session S K g → Type 0
 SessionStops order facts old new =

@@ -20,7 +20,7 @@ abbrev pub unit_result : Answer → Result (Unit {0}) DbError
 unit_result (Refused e) = Err e
 unit_result _ = Ok tt
 
--- an open that was accepted
+-- an open that succeeded
 abbrev pub done : Result (Unit {0}) DbError
 done = Ok tt
 
@@ -48,7 +48,7 @@ abbrev pub log_of : {K : Type 0} {g : _} → Option (OpenDb K g) → List ℕ
 log_of None = []
 log_of (Some state) = string_bytes state.log.name
 
--- and those of the live logs before it that the device may not have whole
+-- and those of the logs in use before it that the device may not have whole
 abbrev pub front_of : {K : Type 0} {g : _} → Option (OpenDb K g) → List (List ℕ)
 front_of None = []
 front_of (Some state) = map string_bytes state.log.front.items
@@ -60,14 +60,14 @@ abbrev pub told_failures : DbError → ℕ
 told_failures Io = 1
 told_failures _ = 0
 
--- An accepted open holds the lock. A refused one doesn't, unless it was held before or the store
--- failed to give it back: then it failed once more than the refusal tells.
+-- An open that succeeds holds the lock. One that fails doesn't, unless it was held before or the
+-- store failed to give it back: then it failed once more than the refusal tells.
 pub record Locks {T : Type 0} (old new : Facts) (result : Result T DbError) : Type 0 where
   pub locked : OnOk result (new.locked ≡ true)
   pub freed : IfErr result (λ e. new.locked ≡ true → (old.locked ≡ true) ⊎ (old.failures + told_failures e < new.failures))
 
--- After an accepted open the file `LOCK` is there. One that was there is left alone, also by an
--- open that is refused.
+-- After an open that succeeds the file `LOCK` is there. One that was there is left alone, also by
+-- an open that fails.
 pub record HasLockFile {T : Type 0} (old new : Facts) (result : Result T DbError) : Type 0 where
   pub there : IsTrue new.faithful → OnOk result (IsSome (get new.files lock_name))
   pub stays : IsTrue new.faithful → IsSome (get old.files lock_name) → LeavesFile old new lock_name

@@ -319,7 +319,7 @@ loses_edits spared cut order old new name bytes Q puts leaves whole spares =
           loses_both old mid new (record { found = disk_of mid; change = Sync name } ∷ []) P done.0.0 begun (loses_noted mid new (Sync name) P (inr done.0) between behind)
     ]
 
--- So it is of what a process crash of the whole may leave.
+-- The same holds of what a process crash of the whole may leave.
 pub loses_put : SparedLaw → CutLaw → (order : Order) (old mid new : Facts) (more : List Call) (name bytes : List ℕ) (P : Files → Type 0) (Q : Directory → Type 0)
     → mid.calls ≡ old.calls ++ more → PutsSynced mid new name bytes → LeavesOnly old new P
     → ((files : Files) → P files → (x : Directory) × Q x × IsConsistent order files x) → ((x : Directory) → Q x → name ≡ name_of (Manifest x.manifest))

@@ -27,13 +27,13 @@ sets_moved old mid new temporary bytes next w moves = record {
   goes = elim moves [ inl idle ↦ inl idle | inr done ↦ inr (w, inr (new, done, inl (refl, refl))) ];
 }
 
--- one that was accepted was done
+-- one that succeeded was done
 pub renamed_by : (mid third : Facts) (temporary bytes : List ℕ) → temporary ≢ name_of Current → get mid.files temporary ≡ Some bytes → Moves mid third temporary → Renames mid.files third.files temporary (name_of Current) → IsRenamed mid third temporary
 renamed_by mid third temporary bytes apart there (inl idle) renames =
     absurd (let bad : Some bytes ≡ None = sym there ∙ sym (ap (λ (disk : Disk). get disk.files temporary) idle.1) ∙ gone_from mid.files third.files temporary (name_of Current) apart renames in cc)
 renamed_by mid third temporary bytes apart there (inr done) renames = done
 
--- and then the sync was accepted, or refused
+-- and then the sync succeeded, or failed
 pub sets_synced : (old mid third new : Facts) (temporary bytes : List ℕ) (r : Result (Unit {0}) StoreError) → IsWritten old mid temporary bytes → IsRenamed mid third temporary
     → OnOk r (Adds third new (Sync (name_of Current))) → OnErr r (new.calls ≡ third.calls) → new.files ≡ third.files → OnOk r (new.synced ≡ with_synced third.synced (name_of Current) (get third.files (name_of Current))) → OnErr r (new.synced ≡ third.synced)
     → SetsThen old new temporary bytes (λ last. last ≡ new)
@@ -77,7 +77,7 @@ made_there old made name absent files (inl idle) =
     let there : contains_key made.files name ≡ true = ap (λ (fs : Files). contains_key fs name) files ∙ ap is_some (get_same old.files name []) in
     absurd (let bad : true ≡ false = sym there ∙ ap (λ (disk : Disk). contains_key disk.files name) idle.1 ∙ absent in cc)
 
--- a log that wasn't there, and was made where that was accepted
+-- a log that wasn't there, and was made where that succeeded
 pub made_whole : (most new : Facts) (log : List ℕ) (r : Result (Unit {0}) DbError) → contains_key most.files log ≡ false → OnOk r (new.files ≡ insert most.files log []) → Makes most new log → OnOk r (OnlyIt most new log × Adds most new (Creation log))
 made_whole most new log (Ok x) absent files makes = (makes.0, made_there most new log absent files makes.1)
 made_whole most new log (Err e) absent files makes = tt
@@ -94,7 +94,7 @@ pub starts_refused : (old new : Facts) (name : List ℕ) → Idles old new ⊎ A
 starts_refused old new name (inl idle) = inl idle
 starts_refused old new name (inr adds) = inr (new, adds, others_same new new (λ (q : List ℕ). q ≡ name) refl refl refl)
 
--- it was accepted, and bytes were added, as many as came after it
+-- it succeeded, and bytes were added, as many as came after it
 starts_added : (old made new : Facts) (name bytes : List ℕ) → contains_key old.files name ≡ false → made.files ≡ insert old.files name [] → Idles old made ⊎ Adds old made (Creation name)
     → Idles made new ⊎ ((n : ℕ) × Adds made new (Addition name (take n bytes))) → new.synced ≡ made.synced → Adds old made (Creation name) × OnlyIt made new name
 starts_added old made new name bytes absent files creation noted same =

@@ -17,7 +17,7 @@ use Rattle.directory_writes.specs.Differing.{OfEach}
 use Rattle.opening.specs.declared.directory.CurrentLog.{CurrentLog}
 use Rattle.opening.specs.declared.directory.DirectoryState.{DirectoryState}
 
--- The last call was a sync that was accepted.
+-- The last call was a sync that succeeded.
 abbrev pub EndsInSync : Facts → Type 0
 EndsInSync facts = (calls : List Call) × (call : Call) × (facts.calls ≡ calls ++ call ∷ []) × (is_sync call.change ≡ true)
 
@@ -54,7 +54,7 @@ IsKept facts name = (bytes : List ℕ) → get facts.files name ≡ Some bytes �
 abbrev pub IsWholeOrGone : Files → Files → List ℕ → Type 0
 IsWholeOrGone files lost name = (bytes : List ℕ) → get files name ≡ Some bytes → (get lost name ≡ None) ⊎ (get lost name ≡ Some bytes)
 
--- So it is, if the file isn't known to be synced.
+-- That holds, if the file isn't known to be synced.
 abbrev pub IsLeftWhole : Facts → Files → List ℕ → Type 0
 IsLeftWhole facts lost name = IsKept facts name ⊎ IsWholeOrGone facts.files lost name
 
@@ -63,8 +63,8 @@ IsLeftWhole facts lost name = IsKept facts name ⊎ IsWholeOrGone facts.files lo
 abbrev pub IsTableKept : Facts → ℕ → Type 0
 IsTableKept facts number = IsKept facts (name_of (Table number)) × (get facts.files (name_of (Table number)) ≡ None → IsKept facts (name_of (OldTable number)))
 
--- So is all that a directory of these parts reads: `CURRENT`, its MANIFEST, its live logs, and its
--- tables but for those that the loss has left.
+-- So is all that a directory of these parts reads: `CURRENT`, its MANIFEST, its logs in use, and
+-- its tables but for those that the loss has left.
 pub record IsKeptWhole (facts : Facts) (lost : Files) (d : Directory) : Type 0 where
   pub current : IsKept facts (name_of Current)
   pub manifest : IsKept facts (name_of (Manifest d.manifest))

@@ -89,8 +89,8 @@ IsNumberUpTo order files number = (n : ℕ) × IsNextNumber order files n × (nu
 
 -- ---- contents
 
--- What was read of a directory: its MANIFEST, and its live logs. Of the tables, which aren't read,
--- their files are there with the sizes of their edits, and the keys of these are in order.
+-- What was read of a directory: its MANIFEST, and its logs in use. Of the tables, which aren't
+-- read, their files are there with the sizes of their edits, and the keys of these are in order.
 pub record Recovers (order : Order) (files : Files) (recovered : Recovered) : Type 0 where
   pub number : ℕ
   pub edits : List (List Field)

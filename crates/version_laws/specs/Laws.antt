@@ -95,7 +95,7 @@ VersionLaw = (order : Order) (files : Files) (d : Directory) (tables : List Plac
     → IsConsistent order files d → ListsSameTables d.layout.tables.items tables → AreInOrder order.cmp tables
     → (contents : List TableContent) × HasVersion order files tables contents × SameEntries (joined (table_sources contents)) (tabled d.tables)
 
--- So it is with a version of some of them alone, as the inputs of a compaction.
+-- The same holds for a version of some of them alone, as the inputs of a compaction.
 abbrev pub PartLaw : Type 0
 PartLaw = (order : Order) (files : Files) (d : Directory) (chosen rest : List TableContent) (tables : List PlacedTable) → IsTotalOrder order.cmp → IsAntisymmetric order.cmp
     → IsConsistent order files d → AreParted d.tables chosen rest → IsPermutation tables (map (λ (content : TableContent). content.placed) chosen) → AreInOrder order.cmp tables

@@ -114,7 +114,7 @@ pub record IsJobPut (order : Order) (deep : List ℕ → Bool) (level : ℕ) (sn
   pub short : (output : TableContent) → InTables outputs output → HasBytes (IsLongTable order) files output → ⊥
   pub needed : AreNeeded (map entry_of came) snapshots deep (tabled outputs)
 
--- So it is with each job that is done.
+-- The same holds for each job that is done.
 abbrev pub JobDoneLaw : Type 0
 JobDoneLaw = (order : Order) (deep : List ℕ → Bool) (plan : JobPlan) (last : List ℕ) (c : Choosing) (facts : Facts) (number : ℕ) (came : List InternalEntry) (edit : List Field) (d : Directory) (inputs rest : List TableContent)
     → IsJobDone order deep plan last c facts number came edit d inputs rest
@@ -132,8 +132,8 @@ abbrev pub AreSeenAlike : List Entry → List ℕ → Directory → Directory �
 AreSeenAlike merged snapshots before after = (p : ℕ) (map : Contents) → SeesAsOne merged snapshots p → IsView (entries_in before) p map → IsView (entries_in after) p map
 
 -- Once the edit stands after the MANIFEST, and no other file has changed, the directory is
--- consistent with the outputs in the place of the inputs. Where of each key of the inputs all else
--- is newer, or the job has kept deletes of it, the views of the snapshots are as they were.
+-- consistent with the outputs instead of the inputs. Where of each key of the inputs all else is
+-- newer, or the job has kept deletes of it, the views of the snapshots are as they were.
 abbrev pub JobPutLaw : Type 0
 JobPutLaw = (order : Order) (deep : List ℕ → Bool) (level : ℕ) (snapshots : List ℕ) (old new : Files) (came : List InternalEntry) (edit : List Field) (d : Directory) (next : Layout) (inputs rest outputs contents : List TableContent)
     → IsConsistent order old d → IsJobPut order deep level snapshots old came edit d inputs rest outputs contents → SameEntries (map entry_of came) (tabled inputs)
@@ -142,8 +142,8 @@ JobPutLaw = (order : Order) (deep : List ℕ → Bool) (level : ℕ) (snapshots 
     × (used_in (compacted d (d.edits ++ edit ∷ []) next contents) ≡ used_in d)
     × (AreNewerOrDeep (tabled inputs) (tabled rest ++ logged d.logs) deep → AreSeenAlike (tabled inputs) snapshots d (compacted d (d.edits ++ edit ∷ []) next contents))
 
--- So it is where the inputs are closed, and `deep` has the keys of all tables below the level that
--- is written.
+-- The same holds if the inputs are closed, and `deep` has the keys of all tables below the level
+-- that is written.
 abbrev pub JobApartLaw : Type 0
 JobApartLaw = (order : Order) (files : Files) (d : Directory) (inputs rest : List TableContent) (level : ℕ) (deep : List ℕ → Bool) → IsTotalOrder order.cmp
     → IsConsistent order files d → AreParted d.tables inputs rest → AreClosedInputs order inputs rest level

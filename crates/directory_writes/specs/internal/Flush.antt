@@ -75,7 +75,7 @@ RefusesNewTable (Corrupt file what) old new entries tables next after = HasNumbe
 RefusesNewTable NumbersSpent old new entries tables next after = (2 ^ 62 ≤ next) × (after ≡ next) × (new ≡ old)
 RefusesNewTable e old new entries tables next after = ⊥
 
--- Why it wasn't flushed: for one of these reasons, or since the device failed at the edit.
+-- Why it wasn't flushed: for one of these reasons, or since the store failed at the edit.
 abbrev pub RefusesFlush : FlushError → Facts → Facts → List Entry → List PlacedTable → ℕ → ℕ → Type 0
 RefusesFlush (Before e) old new entries tables next after = RefusesNewTable e old new entries tables next after
 RefusesFlush Edit old new entries tables next after = old.failures < new.failures
@@ -201,7 +201,7 @@ FlushMeans order old new next after plan manifest entries tables d sealed curren
 FlushMeans order old new next after plan manifest entries tables d sealed current (Err (Before e)) = (IsCorrupt e → ⊥) × IsUnflushed order old new after plan manifest entries tables d sealed current
 FlushMeans order old new next after plan manifest entries tables d sealed current (Err Edit) = MayBeFlushed order old new next after entries d sealed current
 
--- A process crash in its middle leaves what a failure of the device at the edit does.
+-- A process crash in its middle leaves what a failure of the store at the edit does.
 abbrev pub FlushMayLeave : Order → Files → ℕ → ℕ → FlushPlan → CurrentManifest → List Entry → List PlacedTable → Files → Type 0
 FlushMayLeave order old next after plan manifest entries tables new = (d : Directory) (sealed : List LogContent) (current : LogContent)
     → CanFlush order old next plan manifest entries tables d sealed current → MayBeFlushed order old new next after entries d sealed current

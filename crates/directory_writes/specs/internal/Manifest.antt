@@ -31,8 +31,8 @@ pub record IsRecordedBelow (n : ℕ) (edit : List Field) (next : Layout) : Type 
   pub previous_log_number : next.previous_log_number < n
   pub named : AllByRecursion (NamesBelow n) edit
 
--- The edit is put after the MANIFEST of this name, which ends at `end`; or, where the device fails,
--- it is there or not for whoever reads it next. Nothing else changes, and out of memory nothing at
+-- The edit is put after the MANIFEST of this name, which ends at `end`; or, if the store fails, it
+-- is there or not for whoever reads it next. Nothing else changes, and out of memory nothing at
 -- all. Numbers above those that it records stay free.
 pub record AppendsEdit (order : Order) (old new : Facts) (number : ℕ) (name : List ℕ) (end : ℕ) (edit : List Field) (result : Result ℕ DbError) : Type 0 where
   pub ok : IsTrue new.faithful → IfOk result (λ after. (edits : List (List Field)) (layout next : Layout) → CanAddEdit order old.files number name end edits layout edit next

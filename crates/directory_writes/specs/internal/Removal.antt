@@ -1,5 +1,5 @@
--- What the removal of all files that aren't live leaves (LevelDB's doc/impl.md, "Garbage collection
--- of files", and its db/db_impl.cc, DBImpl::RemoveObsoleteFiles).
+-- What the removal of all obsolete files leaves (LevelDB's doc/impl.md, "Garbage collection of
+-- files", and its db/db_impl.cc, DBImpl::RemoveObsoleteFiles).
 use Rattle.std.specs.Prelude.{◌≡◌, ◌⊎◌, ◌↔◌, ◌<◌, ◌≤◌, ◌+◌, ℕ, Bool, true, false, Option, Some, None, List, IsSome, IsTrue, Result, IfOk, OnErr, Contains, length}
 use Rattle.std.specs.FinMap.{get, contains_key}
 use Rattle.coding.specs.declared.error.DbError.{DbError}
@@ -20,12 +20,12 @@ use Rattle.directory_writes.specs.internal.Calls.{LeavesFile}
 use Rattle.directory_writes.specs.declared.removal.Removal.{Removal}
 use Rattle.directory_writes.specs.Removal.{HasBoth, IsDead}
 
--- each file is as before, or isn't live and is gone
+-- each file is as before, or is obsolete and is gone
 abbrev pub LosesDeadOnly : Files → (FileName → Type 0) → Files → Type 0
 LosesDeadOnly old live new = (name : List ℕ) → (get new name ≡ get old name) ⊎ (IsDead live name × (get new name ≡ None))
 
--- A file is as before, or isn't live and is gone. Where the removal is complete, none of these
--- names is that of a file that is there and isn't live; and it is complete exactly where the store
+-- A file is as before, or is obsolete and is gone. Where the removal is complete, none of these
+-- names is that of a file that is there and is obsolete; and it is complete exactly where the store
 -- didn't fail.
 pub record RemovesNamed (old new : Facts) (live : FileName → Type 0) (names : List (List ℕ)) (complete : Bool) : Type 0 where
   pub files : IsTrue new.faithful → (name : List ℕ) → LeavesFile old new name ⊎ (IsDead live name × (get new.files name ≡ None))

@@ -29,7 +29,7 @@ MayRefusePiece (error.Unsupported what) = Unit {0}
 MayRefusePiece error.NumbersSpent = Unit {0}
 MayRefusePiece _ = ⊥
 
--- Want of memory is answered as a failure of the store where a file couldn't be removed either.
+-- Out of memory is answered as a failure of the store where a file couldn't be removed either.
 abbrev pub refused_as : Bool → DbError → DbError
 refused_as complete error.OutOfMemory = if complete then error.OutOfMemory else error.Io
 refused_as complete e = e

@@ -1,5 +1,5 @@
--- A process crash is a failure that nobody saw: what a call leaves where the device fails, a
--- process crash in its middle leaves too.
+-- A process crash is a failure that nobody saw: what a call leaves if the store fails, a process
+-- crash in its middle leaves too.
 use Rattle.std.specs.Prelude.{◌≡◌, false, IsTrue}
 use Rattle.store.specs.Files.{Facts, Files}
 use Rattle.store.specs.Stops.{LeavesOnly}

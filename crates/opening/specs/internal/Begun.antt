@@ -46,14 +46,14 @@ pub record HasBegun {K : Type 0} (order : Order) (files : Files) (begun : Begun 
   pub logs : HasLogs log.directory begun.log.number begun.memory
   pub knows : KnowsDirectory order files log.directory begun.log.number begun.directory
 
--- So it is for what the directory says, wherever it is empty or consistent.
+-- The same holds for what the directory says, wherever it is empty or consistent.
 pub record Begins {K : Type 0} (order : Order) (mode : Mode) (old new : Files) (begun : Begun K) : Type 0 where
   pub allowed : AllowsFiles mode old
   pub made : contains_key new (name_of Current) ≡ true
   pub has : (tables : List TableContent) (entries : List Entry) (used : ℕ) → IsDirectoryOf order old tables entries used → HasBegun order new begun tables entries used
   pub least : (n : ℕ) → IsFree order old n → begun.directory.numbers.next ≤ n + 2
 
--- A refusal came before anything was written, or for want of memory, or since the store failed.
+-- A refusal came before anything was written, or out of memory, or since the store failed.
 abbrev pub IsUnwritten : DbError → Facts → Facts → Type 0
 IsUnwritten error old new = (IsTrue new.faithful → new.files ≡ old.files) ⊎ ((error ≡ OutOfMemory) ⊎ (error ≡ Io))
 

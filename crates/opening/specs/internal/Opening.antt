@@ -136,7 +136,7 @@ pub record IsContinued (order : Order) (old new : Files) : Type 0 where
   pub limits : (tables : List TableContent) (entries : List Entry) (used : ℕ) → IsDirectoryOf order old tables entries used → IsWithinLimits order old → IsWithinLimits order new
 
 -- A record can be put after the new log, which is empty and after logs with all entries, and an
--- edit after the new MANIFEST, which is current, has this length, and says which logs are live.
+-- edit after the new MANIFEST, which is current, has this length, and says which logs are in use.
 pub record HasRewritten (order : Order) (files : Files) (found : Found) (end : ℕ) (tables : List TableContent) (entries : List Entry) (used : ℕ) : Type 0 where
   pub log : CanAppend order files (found.number + 1) 0 tables entries used
   pub before : List LogContent

@@ -88,7 +88,7 @@ pub record RenewsFound (order : Order) (old new : Facts) : Type 0 where
 abbrev pub RenewsBy : Order → Facts → Facts → Type 0
 RenewsBy order old new = Idles old new ⊎ RenewsFound order old new
 
--- One that is accepted does all of it, and has the numbers of what it wrote.
+-- One that succeeds does all of it, and has the numbers of what it wrote.
 pub record RenewsWhole (order : Order) (old new : Facts) (log : CurrentLog) (state : DirectoryState) : Type 0 where
   pub found : Found
   pub rewrite : Rewrite

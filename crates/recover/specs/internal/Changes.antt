@@ -198,7 +198,7 @@ abbrev pub ClosedLaw : Type 0
 ClosedLaw = (order : Order) (files : Files) (d : Directory) (inputs rest : List TableContent) (level : ℕ) → IsTotalOrder order.cmp
     → IsConsistent order files d → AreParted d.tables inputs rest → AreClosedInputs order inputs rest level → MayReplace order inputs rest (level + 1)
 
--- ---- files that aren't live
+-- ---- obsolete files
 
 -- A directory of these parts reads no file of this name: it is neither `CURRENT` nor its MANIFEST
 -- nor a live log, and if it is the older name of a table, the table is there under the newer one.
