@@ -1,5 +1,5 @@
--- Which of the values that a cache keeps goes first, and so which is let go (LevelDB's
--- util/cache.cc): where there are too many, the last. A test says which value is meant.
+-- Which of the values that a cache keeps goes first, and so which is dropped (LevelDB's
+-- util/cache.cc): if there are too many, the last. A test says which value is meant.
 use Rattle.std.specs.Prelude.{◌≡◌, ◌⊎◌, ◌-◌, ℕ, Bool, List, [], ◌∷◌, Option, Some, None, cond, take}
 use Rattle.std.specs.Option.{option_map_or}
 

@@ -153,7 +153,7 @@ too-many-deletes user sequences i pairs new kept lt are more h =
     let second = room-append (map f (take i sequences)) (f s ∷ []) in
     omega (arith, h, all, some, front, parts, first, second)
 
--- they alone are too many, and so they are with an entry after them
+-- they alone are too many, and they still are with an entry after them
 pub too-many-more : (pairs : List Pair) (entries : List Entry) (entry : Entry) → AreTooMany pairs entries → AreTooMany pairs (entries ++ entry ∷ [])
 too-many-more pairs entries entry h = (let all = room-append entries (entry ∷ []) in omega (arith, h, all))
 

@@ -77,8 +77,8 @@ ReadsApart {C} {H} {S} facts store_of with_store gathers keeps cursor mine =
 
 -- ---- both
 
--- These entries came to the job, and those are left: what is needed of the former is written, and
--- what is to be written is nothing that is read, or that is kept of a table beside the store.
+-- These entries came to the job, and those are left. What is needed of the former is written. What
+-- is still to be written is nothing that is read, or that is kept of a table beside the store.
 pub record IsJob {C H S : Type 0} (cmp : Cmp) (deep : List ℕ → Bool) (facts : S → Facts) (store_of : H → S) (with_store : H → S → H) (gathers : H → ℕ → Type 0) (lists : C → H → Listed → Type 0) (keeps : C → H → H → Type 0) (over : C → ℕ → Type 0)
     (last : List ℕ) (cursor : C) (c : Choosing) (w : TablesWritten) (source : H) (next : ℕ) (came rest : List InternalEntry) : Type 0 where
   pub merging : IsMerging cmp deep last c w (facts (store_of source)) next came

@@ -18,7 +18,7 @@ use Rattle.cursor.proofs.Singles.{leading_at}
 use Rattle.cursor.proofs.Befores.{get_among, same_get, rises_get, itself, later_older, put_behind_delete, later_no_lower, no_lower_cases, less_or_not, no_less_itself}
 use Rattle.cursor.proofs.Onwards.{true_not_false}
 
--- the index is this one or behind it
+-- the index is this one or after it
 from_cases : (k n : ℕ) → n ≤ k → (k ≡ n) ⊎ (suc n ≤ k)
 from_cases k n h = elim (cases_lt n k) [ inl l ↦ inr (omega (arith, l)) | inr le ↦ inl (omega (arith, h, le)) ]
 

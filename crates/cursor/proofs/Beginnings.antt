@@ -89,7 +89,7 @@ module _ (cmp : Cmp) (total : IsTotalOrder cmp) (exact : IsAntisymmetric cmp) wh
   up_to_lower user low high e t =
       of_not (is_less (cmp user low)) (no_lower_then cmp total exact low high user (less_or_not cmp total exact low high e) (not_true (is_less (cmp user high)) t))
 
-  -- ---- from the first entry, or from behind the last
+  -- ---- from the first entry, or from after the last
 
   pub from_first : (entries : List InternalEntry) (sequence : ℕ) (hidden : List ℕ) → SearchesOn cmp entries sequence (λ (user : List ℕ). false) 0 false hidden
   from_first entries sequence hidden = record {

@@ -5,7 +5,7 @@ use Rattle.ikey.specs.Keys.{Key, key_cmp}
 use Rattle.ikey.specs.Views.{Among}
 use Rattle.cursor.specs.Places.{Cmp, Listed, is_less}
 
--- before all entries, behind all, or beside a key
+-- before all entries, after all, or beside a key
 pub data Cut : Type 0 where
   Front : Cut
   End : Cut

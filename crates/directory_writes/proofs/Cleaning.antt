@@ -65,7 +65,7 @@ module _ (old new : Facts) (live : FileName → Type 0) (name : List ℕ) where
     | inr later ↦ absurd (in_none (name_of file) later)
   ]
 
-  -- the store was asked to take it away, and it is obsolete
+  -- the store was asked to remove it, and it is obsolete
   pub asked : (r : Result (Unit {0}) StoreError) → IsDead live name → Counts old new r
       → Changes old new r (λ o n. StoreRemoves o n name) (λ o n. (n ≡ o) ⊎ StoreRemoves o n name)
       → ChangesSynced old new r (λ s. with_synced s name None) (λ o n. StoreRemoves o n name)

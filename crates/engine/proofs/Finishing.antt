@@ -322,7 +322,7 @@ module _ {K : Type 0} {g : _} (order : Order) (old mid new : Seen) (before betwe
             stops = keeps_then order old mid new before between (λ m. steps) (tt {0}) t.step (step no_ids).faithful t.stops stops;
           }
 
-  -- all came, and the outputs are instead of the inputs
+  -- all came, and the outputs replace the inputs
   pub taken_done : GoesOn 1 between after → after.job ≡ None → MatchOption before.job (Unit {0}) (λ work. ReplacesInputs work.job.plan before.tables after.tables)
   taken_done goes none =
       let same = job_in goes.work t.more (sym goes.was ∙ t.now) in

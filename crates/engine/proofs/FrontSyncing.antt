@@ -279,7 +279,7 @@ memory_keeps sync old mid new names name bytes (Err e) h a s f is q = same_keeps
 abbrev SameResult : {T : Type 0} → Result T LogError → Result T LogError → Type 0
 SameResult a b = a ≡ b
 
--- so it is told of what it answers in turn
+-- the same is told of what it answers in turn
 pub memory_told : {K : Type 0} (e : LogError) → (SameResult {T = Unit {0}} (Err e) (Err Memory) → K) → SameResult {T = ℕ} (Err e) (Err Memory) → K
 memory_told e h is = h (let same : e ≡ Memory = cc in ap (λ (x : LogError). Err x) same)
 

@@ -115,7 +115,7 @@ stopped_outcome {T = T} A B C old new state memory after_memory numbers job e re
     is_inner : {x : DbError} → SameRefusal {U = T} (Err e) (Err x) → e ≡ x
     is_inner is = cc
 
--- so does an end that fails, but that the database is broken where the store failed
+-- the same for an end that fails, but that the database is broken where the store failed
 pub unended_outcome : {K T : Type 0} {g : _} (order : Order) (old mid new : Facts) (state : DbState K g) (memory after_memory : Memories) (numbers : FileNumbers) (job : Option (OpenJob K g)) (next sequence : ℕ) (manifest : CurrentManifest) (tables : List PlacedTable) (work : OpenJob K g) (e : FlushError)
     → RefusesEnd order mid new next sequence manifest tables work e → old.failures ≡ mid.failures → mid.failures ≤ new.failures → new.denials ≡ old.denials → LeavesMemories memory after_memory
     → DbOutcome {T = T} MayRefusePiece old new (open_db memory state) (open_db after_memory (broken_by (record state { directory = record state.directory { numbers = numbers }; job = job }) (flush_answer e))) (Err (flush_answer e))
@@ -427,7 +427,7 @@ module _ {K : Type 0} {g : _} (order : Order) (total : IsTotalOrder order.cmp) (
       abbrev Spares : FlushError → Type 0
       Spares e = SparesManifest {T = Installed K} new.facts facts (string_bytes state.directory.manifest.name) (IsTableName (IsNumberAtHand after.job.outputs)) (Err e)
 
-      -- the outputs are instead of the inputs
+      -- the outputs replace the inputs
       abbrev pub installed_state : Installed K → DbState K g
       installed_state installed = record (with_job None) { version = installed.version; directory = record state.directory { numbers = numbers; manifest = record state.directory.manifest { end = installed.manifest_end } } }
 

@@ -123,7 +123,7 @@ stays_grown since a b bound files leaves h =
     let stays : (q : List ℕ) → StaysOrGoes a b q = λ q. inr (same q, left_kept a b q (same q) (leaves q)) in
     stays_through since a b bound (same (name_of Current)) (λ n num below. (stays (name_of (Table n)), stays (name_of (OldTable n)), stays (name_of (Log n)))) h
 
--- So of an open what it left before them it leaves behind them.
+-- So what an open left before them it leaves after them.
 module _ (order : Order) (done : List (List ℕ)) (old mid kept : Facts) (first : List Call) (began : mid.calls ≡ old.calls ++ first) (each : SyncsEach done mid kept) (sound : SyncsBeginnings mid) where
   pub meaning_kept : (m : Machine) → LosesMeaning order old mid m → LosesMeaning order old kept m
   meaning_kept m h = loses_kept done old mid kept first _ began each sound h

@@ -199,7 +199,7 @@ lost_front at lost calls front now then same h = record {
   kept = λ q bytes synced there is. h.kept q bytes synced there (ap (λ (p : Held). p.1) (same q) ∙ is);
 }
 
--- The names as a call in front found them, or what is said of the calls behind.
+-- The names as an earlier call found them, or what is said of the later calls.
 since_front : (front after : List Call) (now then : Disk) (lost : Files) (rest : Type 0) → ((q : List ℕ) → held_last after now q ≡ (get then.files q, then.synced q))
     → (IsLostSince after now lost → IsLostSince [] then lost ⊎ rest) → IsLostSince (front ++ after) now lost → IsLostSince front then lost ⊎ rest
 since_front [] after now then lost rest same behind h = behind h

@@ -55,7 +55,7 @@ same_number e = cc
 
 -- ---- a table that was read by its newer name isn't read by its older one after an open
 
--- No open leaves a table that is read by its newer name without that file: with other bytes under
+-- No open leaves a table that is read by its newer name without that file. With other bytes under
 -- its older name, the directory would still be there before, but not after it.
 module _ (order : Order) (old new ideal : Files) (differs : DiffersInTables old ideal) (continued : OfEach (λ whole behind. IsContinued order whole behind) old new) (d : Directory) (good : IsConsistent order ideal d)
     (content : TableContent) (is : InTables d.tables content) where

@@ -136,7 +136,7 @@ abbrev pub SyncsLast : Bool → Facts → Facts → List ℕ → Type 0
 SyncsLast true old new name = IsSynced new name
 SyncsLast false old new name = new.synced name ≡ old.synced name
 
--- The same holds of the log that a batch was put behind, which has more then.
+-- The same holds of the log to which a batch was appended, which has more then.
 abbrev pub SyncsMore : Bool → Facts → Facts → LogContent → LogContent → Type 0
 SyncsMore true old new last more = HasLog new.files more × IsKept new (name_of (Log more.number))
 SyncsMore false old new last more = new.synced (name_of (Log last.number)) ≡ old.synced (name_of (Log last.number))

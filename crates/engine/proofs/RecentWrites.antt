@@ -280,7 +280,7 @@ module _ (sync : Bool) (old new : Facts) (least : ℕ) (tables : List TableConte
   longer : length n.batches ≡ length m.batches + 1
   longer = ap length batches ∙ length-append m.batches (operations ∷ [])
 
-  -- with sync the device has all that was accepted
+  -- with sync all that was accepted is durable
   all_there : h.from + length (batches_in (behind.since ++ more ∷ [])) ≡ length m.batches + 1
   all_there =
       let many = logged_length h.start (batches_in (behind.since ++ more ∷ [])) after are_logged in

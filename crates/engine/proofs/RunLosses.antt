@@ -87,7 +87,7 @@ doubt_first order lost m n operations is h =
     let doubt : n.in_doubt ≡ Some operations = ap (λ (x : Machine). x.in_doubt) is in
     subst (λ (o : Option (List Operation)). HoldsFirst order lost (doubting n o)) (sym doubt) (accepted_as order lost n m operations (sym base) (sym batches) (omega (arith, synced)) h)
 
--- What is left in the middle of a command that has left the database idle is left behind it.
+-- What is left in the middle of a command that has left the database idle is left after it.
 ended_first : (order : Order) (m n : Machine) (op : Op) (a : Answer) → m.opened ≡ true → m.broken ≡ false → m.in_doubt ≡ None → Step order m op a n → IsIdle n → (lost : Files) → HoldsFirst order lost (with_written m op) → HoldsFirst order lost (with_doubted n)
 ended_first order m n op a opens whole certain step idle lost = at op step (step_keeps order m n op a step)
   where

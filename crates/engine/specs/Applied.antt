@@ -101,9 +101,8 @@ Shuts Close state = state ≡ None
 Shuts _ state = Unit {0}
 
 -- What a call of work promises beside its step: which piece of work it was, how far it brought a
--- compaction, and what a table has that it wrote of a memtable; where there was none, that the
--- files are exactly those in use, unless one couldn't be removed, and that no memtable is kept that
--- is obsolete.
+-- compaction, and what a table has that it wrote of a memtable. If there was none, the files are
+-- exactly those in use, unless one couldn't be removed, and no obsolete memtable is kept.
 pub record DoneWork {K : Type 0} {g : _} (order : Order) (options : OptionValues) (budget : ℕ) (old new : Seen) (before after : OpenDb K g) (result : Result Progress DbError) : Type 0 where
   pub does : DoesWork order.cmp options budget before after result
   pub within : EndsWithin order options budget old new before after result

@@ -13,9 +13,8 @@ use Rattle.engine.specs.OpenDb.{OpenDb}
 use Rattle.engine.specs.Stands.{store_of, open_in}
 use Rattle.engine.specs.StandsDb.{db_store_of, open_by}
 
--- Of a database that wasn't broken: it is broken after a call exactly where a call of the store
--- failed within that makes a file, adds to one, syncs one or renames one; and then the answer is
--- Io.
+-- Of a database that wasn't broken. It is broken after a call exactly if within it a call of the
+-- store failed that makes a file, adds to one, syncs one or renames one; and then the answer is Io.
 pub record BreaksExactly (old new : Facts) (now : Bool) (is_io : Type 0) : Type 0 where
   pub broken : now ≡ true → (old.write_failures < new.write_failures) × is_io
   pub whole : now ≡ false → new.write_failures ≡ old.write_failures

@@ -55,7 +55,7 @@ pub record IsLast (order : Order) (facts : Facts) (m : Machine) : Type 0 where
   pub denials : m.denials ≡ facts.denials
 
 -- While the store is faithful, each machine of the files at first, which are undamaged, gives these
--- answers to these commands, and the files are then those of the machine that it comes to.
+-- answers to these commands. The files are then those of the machine that it comes to.
 abbrev pub Headline : Order → Facts → Facts → List Op → List Answer → Type 0
 Headline order old new ops answers =
     IsTrue new.faithful → (first : Machine) → IsFirst order old first → first.damaged ≡ false → (last : Machine) × Run order first ops answers last × IsLast order new last

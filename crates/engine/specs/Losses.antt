@@ -87,8 +87,8 @@ pub record LeavesCut (order : Order) (facts : Facts) (lost : Files) : Type 0 whe
   pub cut : AreCut facts directory.logs logs
   pub left : IsConsistent order lost (record directory { logs = logs })
 
--- Those of the logs that were there before the open are left as they are which the device isn't
--- known to have whole. (An open that succeeds has it keep them all: HasKeptLogs.)
+-- Those of the logs that were there before the open are left as they are that aren't known to be
+-- durable whole. (An open that succeeds syncs them all: HasKeptLogs.)
 abbrev pub LeavesFoundLogs : {K : Type 0} {g : _} → Files → Files → OpenDb K g → Type 0
 LeavesFoundLogs files lost db = (n : ℕ) → IsNumbered n → n < db.directory.manifest.number → Contains (map string_bytes db.log.front.items) (name_of (Log n))
     → get lost (name_of (Log n)) ≡ get files (name_of (Log n))
@@ -123,7 +123,7 @@ SessionLosesEnds order facts session = LosesEndsOver order (seen_in facts sessio
 -- ---- in the middle of a call
 
 -- Of files with numbers below this one each is synced whole, or the loss has left it whole, or
--- taken it away. (It takes no name away that stays.)
+-- removed it. (It takes no name away that stays.)
 abbrev pub SparesBelow : Facts → ℕ → Files → Type 0
 SparesBelow facts bound lost = (n : ℕ) → IsNumbered n → n < bound
     → IsLeftWhole facts lost (name_of (Table n)) × IsLeftWhole facts lost (name_of (OldTable n)) × IsLeftWhole facts lost (name_of (Log n))
@@ -152,8 +152,8 @@ DbLosesWrite order facts operations old new = IsTrue (facts (db_store_of new)).f
 
 -- ---- in the middle of an open
 
--- Where the device has the names that were there, a power loss that cuts no file short which was
--- there leaves what was accepted, the in-doubt batch wholly or not.
+-- If the names that were there are durable, a power loss that truncates no file that was there
+-- leaves what was accepted, the in-doubt batch wholly or not.
 abbrev pub OpenLoses : Order → Facts → Facts → Ids → Type 0
 OpenLoses order old new ids = IsTrue new.faithful → (m : Machine) → m.damaged ≡ false → StandsClosed order old ids m → ((name : List ℕ) → StaysNamed old name)
     → LosesOnly old new (λ lost. LeavesUncut old lost → HoldsAccepted order lost m)

@@ -75,7 +75,7 @@ IsFresh db = (db.job ≡ None) × (db.iterators.entries ≡ [])
 abbrev pub LeavesFirst : Order → Facts → ℕ → Machine → Files → Type 0
 LeavesFirst order since bound m lost = SparesBelow since bound lost → HoldsFirst order lost m
 
--- If each loss until then does, so does each at any moment since, and until the next call.
+-- If each loss until then does, each does at any moment since, and until the next call.
 abbrev pub LosesOn : Order → Facts → Facts → Type 0
 LosesOn order old new = (since : Facts) (bound : ℕ) (m : Machine) → StaysFound since old bound → LosesOnly old old (LeavesFirst order since bound m)
     → LosesOnly old new (LeavesFirst order since bound m) × StaysFound since new bound
@@ -107,7 +107,7 @@ abbrev pub SessionLosesOn : {S K : Type 0} {g : _} → Order → (S → Facts) �
 SessionLosesOn order facts old new = IsTrue (facts (store_of new)).faithful → IsSome (get (facts (store_of old)).files lock_name) → (m : Machine) → m.damaged ≡ false → Stands order facts old m
     → LosesOn order (facts (store_of old)) (facts (store_of new))
 
--- The logs that an open that succeeds found are synced whole.
+-- The logs that a successful open found are synced whole.
 abbrev pub KeptOver : {K : Type 0} {g : _} → Facts → Option (OpenDb K g) → Answer → Type 0
 KeptOver facts (Some db) Done = IsTrue facts.faithful → HasKeptLogs facts db.directory
 KeptOver facts state answer = Unit {0}

@@ -57,9 +57,9 @@ StopsBy op order facts old new =
 
 -- ---- a run, from files to files
 
--- From the files at its begin to those at its end, by those between its commands: a process crash
+-- From the files at its begin to those at its end, by those between its commands. A process crash
 -- in the middle of a command leaves what that one may, in the state to which the commands before it
--- led; a process crash after the last one leaves what was accepted.
+-- led. A process crash after the last one leaves what was accepted.
 abbrev pub StopsEach : Order → Machine → Facts → Facts → List Op → List Answer → Type 0
 StopsEach order m old new [] [] = StopsKeeping order m old new
 StopsEach order m old new (command ∷ commands) (answer ∷ answers) =
@@ -68,7 +68,7 @@ StopsEach order m old new (command ∷ commands) (answer ∷ answers) =
 StopsEach order m old new [] (answer ∷ answers) = ⊥
 StopsEach order m old new (command ∷ commands) [] = ⊥
 
--- While the store is faithful, from each machine of undamaged files at first: a process crash at
+-- While the store is faithful, from each machine of undamaged files at first. A process crash at
 -- any moment leaves what the commands that were answered by then have accepted, and the batch of
 -- the one that it meets as a whole or not at all.
 abbrev pub StopsRun : Order → Facts → Facts → List Op → List Answer → Type 0

@@ -74,8 +74,8 @@ abbrev pub PutsMerged : {K : Type 0} {g : _} → Order → Seen → Seen → Ope
 PutsMerged order old new before after =
     MatchOption before.job ⊥ (λ work. IsTrue new.facts.faithful → (ids : Ids) (m : Machine) → StandsWhole order old ids before m → HasMerged order old.facts.files new.facts.files work before after)
 
--- While the store is faithful: the call came through a state in which the compaction of this plan
--- had just begun, for the sequence numbers that are read at, and that is what it has become.
+-- While the store is faithful, the call came through a state in which the compaction of this plan
+-- had just begun, for the sequence numbers that are read at. That is what it has become.
 abbrev pub MergesPlan : {K : Type 0} {g : _} → Order → JobPlan → Seen → Seen → OpenDb K g → OpenDb K g → Type 0
 MergesPlan {K} {g} order plan old new before after =
     IsTrue new.facts.faithful → (between : Seen) × (mid : OpenDb K g) × ((ids : Ids) (m : Machine) → StandsWhole order old ids before m → (n : Machine) × StandsWhole order between ids mid n)

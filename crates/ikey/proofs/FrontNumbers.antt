@@ -42,7 +42,7 @@ front-less (suc k) n (x ∷ xs) (y ∷ ys) h j lt =
     by (inr (inl l)) rest = ap (λ (o : Ordering). ordering_then o (slice_cmp nat_cmp xs ys)) (less-is x y l)
     by (inr (inr g)) rest = absurd (omega (arith, lt, rises k (n * 256 + y) (n * 256 + x) ys xs (λ i. j (suc i)) (omega (arith, g))))
 
--- a greater one comes behind
+-- a greater one comes after
 pub front-greater : (k n : ℕ) (xs ys : List ℕ) → AreBytes xs → AreBytes ys → spelled k n ys < spelled k n xs → slice_cmp nat_cmp xs ys ≡ Greater
 front-greater zero n xs ys h j lt = absurd (omega (arith, lt))
 front-greater (suc k) n [] [] h j lt = absurd (omega (arith, lt))

@@ -10,7 +10,7 @@ use Rattle.ikey.specs.Views.{Among, Contents, IsNewest, IsUnseen, IsView, IsValu
 
 -- ---- sources
 
--- of the same key the entries in front are newer than those behind
+-- of the same key the entries of the first are newer than those of the second
 abbrev pub IsNewerThan : List Entry → List Entry → Type 0
 IsNewerThan front back = (a b : Entry) → Among front a → Among back b → a.key ≡ b.key → b.sequence < a.sequence
 
@@ -49,7 +49,7 @@ IsAnswer source sequence key (Some value) = (entry : Entry) × IsNewest source s
 abbrev pub FrontLaw : Type 0
 FrontLaw = (front back : List Entry) (sequence : ℕ) (entry : Entry) → IsNewerThan front back → IsNewest front sequence entry → IsNewest (front ++ back) sequence entry
 
--- Where the key isn't seen in front, it has the value that it has behind.
+-- Where the key isn't seen in the first source, it has the value that it has in the second.
 abbrev pub BehindLaw : Type 0
 BehindLaw = (front back : List Entry) (sequence : ℕ) (key : List ℕ) (value : Option (List ℕ)) → IsUnseen front sequence key
     → IsValueAt back sequence key value → IsValueAt (front ++ back) sequence key value

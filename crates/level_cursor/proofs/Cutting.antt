@@ -40,7 +40,7 @@ leading_most cmp key list n entry splits at fails = elim (cases_lt n (leading (i
   | inl less ↦ absurd (let bad : true ≡ false = sym ((splits n entry at).0 less) ∙ fails in cc)
 ]
 
--- the same place is in the list, or both are behind it
+-- the same place is in the list, or both are after it
 same_or_past : (entries : List InternalEntry) (a b : ℕ) → within entries a ≡ within entries b → (a ≡ b) ⊎ ((length entries ≤ a) × (length entries ≤ b))
 same_or_past entries a b e = elim (within_cases entries a) [
   | inl x ↦ elim (within_cases entries b) [
@@ -211,7 +211,7 @@ module _ {K : Type 0} {g : _} (cmp : Cmp) (source : Seen) (lists : List (List In
   pub prev_same : prev_cut (listed h.list (Some h.inside)) ≡ prev_cut (listed (joined lists) place)
   prev_same = prev_at (listed h.list (Some h.inside)) h.inside its_own.0 refl its_own.1 ∙ sym (prev_at (listed (joined lists) place) (entries_before lists here.index + h.inside) its_own.0 h.place_is in_all)
 
--- ---- where a step, and a search behind it, are refused
+-- ---- where a step, and a search after it, fail
 
 module _ {K : Type 0} {g : _} (cmp : Cmp) (source : Seen) (row : List PlacedTable) (total : IsTotalOrder cmp) (here : Option (InTable K g)) (at : Listed) (h : ListsTables cmp source row here at) where
   rises_all : Rises cmp (joined h.lists)

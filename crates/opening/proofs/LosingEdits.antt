@@ -298,7 +298,7 @@ here_loses spared cut order old name bytes Q leaves spares lost since kept =
     (x, first.1, left_cut spared cut order old x first.2 (spares x first.1) lost since (kept x first.1))
 
 -- Bytes are put after the MANIFEST and synced, of which each beginning leaves one of these
--- directories: so does each loss, at any moment, but for the ends of logs.
+-- directories. Each loss leaves one too, at any moment, except for the ends of logs.
 pub loses_edits : SparedLaw → CutLaw → (order : Order) (old new : Facts) (name bytes : List ℕ) (Q : Directory → Type 0) → PutsSynced old new name bytes → LeavesOne order old.files name bytes Q → IsKept old name → ((x : Directory) → Q x → AreSpared old x)
     → LosesOnly old new (LeavesOneCut order old Q)
 loses_edits spared cut order old new name bytes Q puts leaves whole spares =

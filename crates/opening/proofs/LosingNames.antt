@@ -93,7 +93,7 @@ module _ (old new : Facts) (from to : List ℕ) (adds : Adds old new (Move from 
   }
 
   -- After a sync the file is renamed: a loss leaves what it left before, or what it would leave
-  -- behind a further sync.
+  -- after a further sync.
   pub loses_renamed : (P : Files → Type 0) → behind_sync [] old.calls ≡ [] → LosesOnly old old P → ((lost : Files) → IsLost new.files [] (disk_of new) lost → P lost) → LosesOnly new new P
   loses_renamed P none before behind lost since =
       let least : length new.calls ≤ since.0 = since.1 in

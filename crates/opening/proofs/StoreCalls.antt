@@ -26,7 +26,7 @@ use Rattle.opening.specs.internal.Renewing.{OnlyIt}
 abbrev pub done_so : Result (Unit {0}) DbError
 done_so = Ok tt
 
--- no lock was denied, taken or given back
+-- no lock was denied, taken or released
 abbrev Unlocking : Facts → Facts → Type 0
 Unlocking old new = (new.denials ≡ old.denials) × (new.locked ≡ old.locked)
 

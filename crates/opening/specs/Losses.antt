@@ -35,7 +35,7 @@ IsLogBelow bound name = (n : ℕ) × IsNumbered n × (n < bound) × (name ≡ na
 abbrev pub IsLogRead : DirectoryState → ℕ → Type 0
 IsLogRead state n = (state.first_log ≤ n) ⊎ ((n ≡ state.previous_log) × (0 < n))
 
--- The log that writes go to, and those before it that the device may not have whole.
+-- The log that writes go to, and those before it that may not be durable whole.
 abbrev pub logs_in_doubt : CurrentLog → List (List ℕ)
 logs_in_doubt log = string_bytes log.name ∷ map string_bytes log.front.items
 
@@ -114,9 +114,9 @@ IsReadIn files d name = (name ≡ name_of Current) ⊎ (name ≡ name_of (Manife
 abbrev pub IsLogIn : Directory → List ℕ → Type 0
 IsLogIn d name = (n : ℕ) × IsNumbered n × IsLive d.layout n × (name ≡ name_of (Log n))
 
--- Of what the directory reads, these files are left: the same names, but for logs of which nothing
--- was synced, and of each file a beginning of what it holds, with what of it was synced at least.
--- Whatever else lies there, and whatever is gone, is none of its.
+-- Of what the directory reads, these files are left: the same names, except logs of which nothing
+-- was synced, and of each file a beginning of what it holds. That beginning has at least what of it
+-- was synced. Whatever else lies there, and whatever is gone, is none of the directory's.
 pub record IsLeftOf (facts : Facts) (d : Directory) (lost : Files) : Type 0 where
   pub names : (q : List ℕ) → IsReadIn facts.files d q → contains_key lost q ≡ contains_key facts.files q
   pub logs : (q : List ℕ) → IsLogIn d q → (contains_key lost q ≡ contains_key facts.files q) ⊎ ((contains_key lost q ≡ false) × (facts.synced q ≡ None))
@@ -130,8 +130,8 @@ CutLaw = (order : Order) (facts : Facts) (d : Directory) (lost : Files) → IsCo
 
 -- ---- a loss since the last sync
 
--- The calls since the last sync spare what a directory of these parts reads: no file of it was
--- moved, replaced, made or removed, but that logs were begun of which nothing is synced.
+-- The calls since the last sync spare what a directory of these parts reads. No file of it was
+-- moved, replaced, made or removed, except that logs were begun of which nothing is synced.
 pub record AreSpared (facts : Facts) (d : Directory) : Type 0 where
   pub reads : (name : List ℕ) → IsReadIn facts.files d name → StaysNamed facts name
   pub logs : (name : List ℕ) → IsLogIn d name → StaysOrBegins facts name
@@ -155,8 +155,8 @@ IsUncut files lost name = (bytes held : List ℕ) → get files name ≡ Some by
 abbrev pub LeavesUncut : Facts → Files → Type 0
 LeavesUncut facts lost = (name : List ℕ) → IsKept facts name ⊎ IsUncut facts.files lost name
 
--- The device has the names as they are, but for that of the lock's file, which each open makes
--- where it was missing.
+-- The names are durable as they are, but for that of the lock's file, which each open makes where
+-- it was missing.
 abbrev pub HaveNamesStayed : Facts → Type 0
 HaveNamesStayed facts = (name : List ℕ) → name ≢ lock_name → StaysNamed facts name
 

@@ -40,7 +40,7 @@ same_before order a b e f k s l t (inl less) =
     inl (subst P k (subst Q l less))
 same_before order a b e f k s l t (inr older) = inr (sym k ∙ older.0 ∙ l, omega (arith, s, t, older.1))
 
--- one that doesn't come in front, and may follow, comes behind
+-- one that doesn't come before, and may follow, comes after
 pub comes_behind : (order : Order) → IsTotalOrder order.cmp → IsAntisymmetric order.cmp → (a b : Came) → (ComesBefore order b.entry a.entry → ⊥) → MayFollow a b → ComesBehind order a b
 comes_behind order o exact a b front follows = by (order.cmp a.entry.key b.entry.key) refl
   where

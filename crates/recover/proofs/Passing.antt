@@ -76,7 +76,7 @@ split_first pair entry behind (o ∷ os) xs entries is h e =
     let one : o ≡ entry = one_pair pair o entry h.0 is in
     (os, e ∙ ap (λ (x : InternalEntry). xs ++ entry_of x ∷ map entry_of os) one, h.1)
 
--- what was passed stands before the entry at hand, and what follows behind
+-- what was passed stands before the entry at hand, and what follows after it
 around : (order : Order) (files : Files) (placed : PlacedTable) (table : Opened) (next : ℕ) (front : List Pair) (pair : Pair) (tail : List Pair) (kept : List InternalEntry) (entry : InternalEntry) (entries : List Entry)
     → AreFirst order files placed table next (front ++ pair ∷ tail) → ArePairs front kept → IsPair pair entry → HasTable order files (content_of placed entries)
     → (others : List InternalEntry) × (entries ≡ map entry_of kept ++ entry_of entry ∷ map entry_of others) × ((rest : List Pair) × ArePairs (tail ++ rest) others)

@@ -87,7 +87,7 @@ module _ (cmp : Cmp) (total : IsTotalOrder cmp) (source : Seen) (placed : Placed
       let begin = before_zero lists.groups in
       lies Front stops.index 0 stops.inside stops.torn (omega (arith, none, begin)) (omega arith) (splits_first cmp at.entries)
 
-  -- behind the entry on which it stands
+  -- after the entry on which it stands
   pub torn_next : (n start : ℕ) → at.place ≡ Some n → within (joined lists.groups) (pairs_before lists.groups start) ≡ option_and_then (index_behind (joined lists.groups)) at.place
       → LacksOn cmp (λ (key : List ℕ). ⊥) source placed frame start → TornTable cmp source placed frame (next_cut at)
   torn_next n start place_is follows lacks =

@@ -80,8 +80,7 @@ pub record StopsAt (passed : List ℕ → Type 0) (pairs : List Pair) (from inde
 
 -- ---- steps within a block
 
--- It has gone on to the pair behind; or it stays, and the pair behind is the first from this block
--- on.
+-- It has gone on to the next pair; or it stays, and the next pair is the first from this block on.
 abbrev pub StepsOn : List (List Pair) → Option (InBlock Placed) → Option ℕ → Option ℕ → Type 0
 StepsOn groups new place None =
     IsTrue (is_some (option_and_then (index_behind (joined groups)) place)) × IsPlacedIn groups new (option_and_then (index_behind (joined groups)) place)

@@ -21,9 +21,9 @@ use Rattle.table_access.specs.Possible.{MayBeTable}
 use Rattle.table_access.specs.Tables.{Seen, IsSound}
 use Rattle.db_cursor.specs.Inputs.{IsMergeIntact, IsMergeLimited, IsMergeTorn, KeepsMerge, ReadsNoMemory}
 
--- It goes over entries that these tables may have, as far as their blocks tell, which are those of
--- the places where they are searched, in the order of their internal keys, and has no place. It
--- passes a limit, or comes to a torn block, only where the file of one of the tables does.
+-- It goes over entries that these tables may have, as far as their blocks tell, and has no place.
+-- These are the entries of the places where the tables are searched, in the order of their internal
+-- keys. It passes a limit, or comes to a torn block, only where the file of one of the tables does.
 pub record MayBeMergeOf {K : Type 0} {g : _} (cmp : Cmp) (tables : List PlacedTable) (contents : List TableContent) (whole : Whole) (merge : Merge K (SourceCursor K g)) : Type 0 where
   pub entries : List InternalEntry
   pub same : SameEntries (map entry_of entries) (tabled contents)

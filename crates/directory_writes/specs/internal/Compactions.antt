@@ -91,7 +91,7 @@ JobFoldsLaw = (name : List ℕ) (edits : List (List Field)) (level next last : �
 -- ---- the whole
 
 -- A job of a plan for this directory has ended over files that are still this directory, and
--- answered this edit: its inputs may be replaced, all of their entries came, no output has the
+-- answered this edit. Its inputs may be replaced, all of their entries came, no output has the
 -- number of a table, and the edit's sequence number is the last one used.
 pub record IsJobDone (order : Order) (deep : List ℕ → Bool) (plan : JobPlan) (last : List ℕ) (c : Choosing) (facts : Facts) (number : ℕ) (came : List InternalEntry) (edit : List Field) (d : Directory) (inputs rest : List TableContent) : Type 0 where
   pub consistent : IsConsistent order facts.files d

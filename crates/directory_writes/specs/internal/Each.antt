@@ -20,8 +20,8 @@ use Rattle.directory_writes.specs.internal.Manifest.{AppendsEdit}
 abbrev pub SameChangeLaw : Type 0
 SameChangeLaw = (old new whole : Files) → DiffersInTables old whole → (after : Files) × IsSameChange old new whole after × DiffersInTables new after
 
--- So does whatever the same change leaves; where both had the same file before, they have the same
--- one then.
+-- What the same change leaves differs in tables alone too; where both had the same file before,
+-- they have the same one then.
 abbrev pub SameFileLaw : Type 0
 SameFileLaw = (old new whole after : Files) → DiffersInTables old whole → IsSameChange old new whole after
     → DiffersInTables new after × ((name : List ℕ) → get whole name ≡ get old name → get after name ≡ get new name)

@@ -128,7 +128,7 @@ Prepares order new next after plan entries old result = IfOk result (λ prepared
 -- ---- what the directory means
 
 -- The files are a directory whose logs are sealed ones, which have the entries of the memtable, and
--- the current one; the edit that is planned can be put after its MANIFEST; no number from `next` on
+-- the current one. The edit that is planned can be put after its MANIFEST. No number from `next` on
 -- is taken, and the tables are the directory's.
 pub record CanFlush (order : Order) (files : Files) (next : ℕ) (plan : FlushPlan) (manifest : CurrentManifest) (entries : List Entry) (tables : List PlacedTable)
     (d : Directory) (sealed : List LogContent) (current : LogContent) : Type 0 where

@@ -102,7 +102,7 @@ abbrev pub AreOldOrSynced : Facts → List PlacedTable → List PlacedTable → 
 AreOldOrSynced facts old new = (placed : PlacedTable) → Contains new placed → Contains old placed ⊎ IsTableSynced facts placed.table.number
 
 -- The new version is in order, and is the old one after an edit that can be written: that of the
--- plan, which takes its inputs away and puts tables into its output level that the job wrote.
+-- plan. It removes its inputs and puts tables into its output level that the job wrote.
 pub record HasJobVersion (cmp : List ℕ → List ℕ → Ordering) (plan : JobPlan) (w : TablesWritten) (old new : Placement) : Type 0 where
   pub edit : List Field
   pub proper : All IsProper edit
@@ -205,7 +205,7 @@ abbrev pub PutsOwn : Order → TablesWritten → Files → Directory → Type 0
 PutsOwn order w new d = (e : Directory) → IsConsistent order new e → (placed : PlacedTable) → Contains e.layout.tables.items placed
     → Contains d.layout.tables.items placed ⊎ (IsOwn w placed.table.number × ((file : List ℕ) × (get new (table_name placed.table.number) ≡ Some file)))
 
--- The same holds if the device failed at the edit.
+-- The same holds if the store failed at the edit.
 abbrev pub InstallPutsOwn : {K C : Type 0} → Order → Job K C → Facts → Facts → ℕ → ℕ → CurrentManifest → List PlacedTable → Result (Installed K) FlushError → Type 0
 InstallPutsOwn order job old new next last_sequence manifest tables result =
     result ≡ Err Edit → IsTrue new.faithful → (deep : List ℕ → Bool) (came : List InternalEntry) (d : Directory) (inputs rest : List TableContent)

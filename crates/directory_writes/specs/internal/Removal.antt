@@ -41,8 +41,8 @@ pub record RemovesDead (old new : Facts) (live : FileName → Type 0) (result : 
   pub stood : IfOk result (λ removal. IsTrue removal.complete → new.failures ≡ old.failures)
   pub err : IsTrue new.faithful → OnErr result ((new.files ≡ old.files) × (new.synced ≡ old.synced))
 
--- No more of these files stay without being live than calls of the store failed: each is live, is
--- gone, or has one of so many names; or it is one that waits, for those that couldn't be removed.
+-- No more of these files stay without being in use than calls of the store failed. Each is in use,
+-- is gone, or has one of so many names; or it is one that waits for those that couldn't be removed.
 abbrev pub LeavesFew : Facts → Facts → (FileName → Type 0) → (FileName → Type 0) → (List ℕ → Type 0) → Type 0
 LeavesFew old new live waits listed = IsTrue new.faithful → (left : List (List ℕ)) × (old.failures + length left ≤ new.failures)
     × ((file : FileName) → IsFileName file → listed (name_of file)
@@ -53,7 +53,7 @@ abbrev pub MayLose : Files → (ℕ → Type 0) → ℕ → Type 0
 MayLose files in_use n = (in_use n → ⊥) ⊎ HasBoth files n
 
 -- The files of a table, by both names, are as before; or it isn't in use, and reads as before or is
--- gone; or it had both, and that with the newer name is as before, so that it reads as before.
+-- gone. Or it had both, and that with the newer name is as before, so that it reads as before.
 abbrev pub KeepsTable : Facts → Facts → (ℕ → Type 0) → ℕ → Type 0
 KeepsTable old new in_use n =
     ((get new.files (name_of (Table n)) ≡ get old.files (name_of (Table n))) × (get new.files (name_of (OldTable n)) ≡ get old.files (name_of (OldTable n))))

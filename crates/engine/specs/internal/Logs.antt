@@ -63,8 +63,8 @@ abbrev pub KeepsTables : Files → Files → Type 0
 KeepsTables old new = (number : ℕ)
     → (get new (name_of (Table number)) ≡ get old (name_of (Table number))) × (get new (name_of (OldTable number)) ≡ get old (name_of (OldTable number)))
 
--- The operations are put after the log of this name, which ends at `end`, as a batch behind `used`
--- sequence numbers; or, if the store fails, none of them or all of them are there for the next
+-- The operations are put after the log of this name, which ends at `end`, as a batch after `used`
+-- sequence numbers. Or, if the store fails, none of them or all of them are there for the next
 -- open. Nothing else changes: no other part of the directory, nor where its MANIFEST ends, nor
 -- which numbers are free.
 pub record Logs (order : Order) (old new : Facts) (log : ℕ) (name : List ℕ) (end used : ℕ) (operations : List Operation) (result : Result ℕ LogError) : Type 0 where
@@ -113,8 +113,8 @@ pub record HasLastLog (order : Order) (files : Files) (d : Directory) (log used 
   pub batches : (next.batches ≡ last.batches) ⊎ (next.batches ≡ last.batches ++ (used + 1, operations) ∷ [])
   pub consistent : IsConsistent order files (record d { logs = before ++ next ∷ [] })
 
--- The same holds if a beginning of these bytes stands after the log of this name, which ended at
--- `end`.
+-- The same holds wherever a beginning of these bytes stands after the log of this name, which ended
+-- at `end`.
 abbrev pub AddsBatch : Order → Files → ℕ → List ℕ → ℕ → ℕ → List Operation → List ℕ → Type 0
 AddsBatch order old log name end used operations bytes = (files : Files) → AppendsBeginning old files name bytes → (tables : List TableContent) (entries : List Entry) → name ≡ name_of (Log log)
     → (a : CanAppend order old log end tables entries used) → HasLastLog order files a.directory log used operations

@@ -31,8 +31,8 @@ AreEmptyBehind [] = Unit {0}
 AreEmptyBehind (log ∷ logs) = AllByRecursion (λ (other : LogContent). other.batches ≡ []) logs
 
 -- The logs are those that the open found, whose numbers are below that of its MANIFEST; then those
--- begun since that are synced whole; then those that the device may not have whole, of which all
--- but the first are empty: that which writes go to is always one of them.
+-- begun since that are synced whole; then those that may not be durable whole. Of the last all but
+-- the first are empty, and the one that writes go to is always one of them.
 pub record AreParts (facts : Facts) (least : ℕ) (logs : List LogContent) : Type 0 where
   pub found : List LogContent
   pub kept : List LogContent

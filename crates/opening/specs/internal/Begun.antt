@@ -70,8 +70,8 @@ pub record IsFront (found : Found) (names : List (List ℕ)) : Type 0 where
   pub none : found.entries.items ≡ [] → names ≡ []
   pub all : found.entries.items ≢ [] → names ≡ names_of_logs found.logs.items
 
--- Which of the logs that the next open reads the device may not have whole, and that an open leaves
--- tables alone: those that are there, and all logs but the new one, have numbers below that of its
+-- Which of the logs that the next open reads may not be durable whole, and that an open leaves
+-- tables alone. Those that are there, and all logs but the new one, have numbers below that of its
 -- MANIFEST; the new one is above it.
 pub record BeginsSynced (old new : Facts) (log : CurrentLog) (state : DirectoryState) : Type 0 where
   pub logs : AreInDoubt new.files log state

@@ -127,16 +127,18 @@ pub record IsKnownAfter (found : Found) (name : List ℕ) (end : ℕ) (state : D
   pub next : state.numbers.next ≡ found.number + 2
   pub logs : KeepsLogs found state.first_log state.previous_log
 
--- What an open leaves of a directory, wherever it ended: what it says, `CURRENT`, which file
--- numbers are free but for the two that it may have drawn, and that no limit of reading is passed.
+-- What an open leaves of a directory as it was, wherever it ended. That is what it says, `CURRENT`,
+-- which file numbers are free except the two that it may have drawn, and that no limit of reading
+-- is passed.
 pub record IsContinued (order : Order) (old new : Files) : Type 0 where
   pub meaning : (tables : List TableContent) (entries : List Entry) (used : ℕ) → IsDirectoryOf order old tables entries used → IsDirectoryOf order new tables entries used
   pub made : contains_key old (name_of Current) ≡ true → contains_key new (name_of Current) ≡ true
   pub free : (m : ℕ) → IsFree order old m → IsFree order new (m + 2)
   pub limits : (tables : List TableContent) (entries : List Entry) (used : ℕ) → IsDirectoryOf order old tables entries used → IsWithinLimits order old → IsWithinLimits order new
 
--- A record can be put after the new log, which is empty and after logs with all entries, and an
--- edit after the new MANIFEST, which is current, has this length, and says which logs are in use.
+-- A record can be put after the new log, which is empty and after logs with all entries. An edit
+-- can be put after the new MANIFEST, which is current, has this length, and says which logs are in
+-- use.
 pub record HasRewritten (order : Order) (files : Files) (found : Found) (end : ℕ) (tables : List TableContent) (entries : List Entry) (used : ℕ) : Type 0 where
   pub log : CanAppend order files (found.number + 1) 0 tables entries used
   pub before : List LogContent

@@ -119,9 +119,9 @@ abbrev pub with_content : TableContent → List TableContent → List TableConte
 with_content new [] = new ∷ []
 with_content new (content ∷ contents) = if is_before new.placed content.placed then new ∷ content ∷ contents else content ∷ with_content new contents
 
--- The layout is that of a flush: what was logged before the current log is in a new table of level
--- 0 instead, whose number is above those of all tables, and the log number is the current log's.
--- All used sequence numbers are recorded.
+-- The layout is that of a flush. What was logged before the current log is in a new table of level
+-- 0 instead, whose number is above those of all tables. The log number is the current log's, and
+-- all used sequence numbers are recorded.
 pub record IsFlush (d : Directory) (next : Layout) (content : TableContent) (sealed : List LogContent) (current : LogContent) : Type 0 where
   pub logs : d.logs ≡ sealed ++ current ∷ []
   pub entries : SameEntries content.entries (logged sealed)
@@ -200,8 +200,8 @@ ClosedLaw = (order : Order) (files : Files) (d : Directory) (inputs rest : List 
 
 -- ---- obsolete files
 
--- A directory of these parts reads no file of this name: it is neither `CURRENT` nor its MANIFEST
--- nor a live log, and if it is the older name of a table, the table is there under the newer one.
+-- A directory of these parts reads no file of this name. It is neither `CURRENT` nor its MANIFEST
+-- nor a log in use, and if it is the older name of a table, the table is there under the newer one.
 pub record IsUnread (files : Files) (d : Directory) (name : List ℕ) : Type 0 where
   pub current : name ≢ name_of Current
   pub manifest : name ≢ name_of (Manifest d.manifest)

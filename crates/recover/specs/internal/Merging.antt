@@ -244,7 +244,8 @@ abbrev pub IsNotOldEntry : List Entry → List ℕ → ℕ → Type 0
 IsNotOldEntry entries key sequence = (l : Entry) × Among entries l × (l.key ≡ key) × (l.sequence ≤ sequence)
 
 -- The entry at which the lane stands is newer than the recorded sequence number, or not older than
--- what is logged of its key, or breaks the row; and each is refused by an error of its own.
+-- what is logged of its key, or breaks the order of the entries. Each is refused by an error of its
+-- own.
 abbrev pub Misplaces : {K : Type 0} → List Entry → ℕ → Last → Lane K → DbError → Type 0
 Misplaces entries recorded last lane error =
     ((error ≡ Corrupt file.Table damage.Number) × (recorded < lane.walk.head.sequence))

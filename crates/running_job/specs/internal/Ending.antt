@@ -46,9 +46,9 @@ abbrev pub EndMayPutOwn : {K : Type 0} {g : _} → Order → Facts → ℕ → �
 EndMayPutOwn order old next last_sequence manifest tables work new =
     (whole : Whole) (d : Directory) (came : List InternalEntry) → whole.seen.facts ≡ old → CanEnd order whole next last_sequence manifest tables d work came → PutsOwn order work.job.outputs new d
 
--- Why it isn't ended: out of memory, while no call of the store failed; since the store failed;
--- never as Corrupt over such a directory; as Unsupported only where the inputs' entries are large;
--- or where numbers are above 2^62.
+-- Why it isn't ended: out of memory, while no call of the store failed; since the store failed; or
+-- because numbers are above 2^62. Never as Corrupt over such a directory. As Unsupported only if
+-- the inputs' entries are large.
 abbrev pub RefusesEnd : {K : Type 0} {g : _} → Order → Facts → Facts → ℕ → ℕ → CurrentManifest → List PlacedTable → OpenJob K g → FlushError → Type 0
 RefusesEnd order old new next last_sequence manifest tables work (Before e) = RefusesEntry e old new
     (IsTrue new.faithful → (whole : Whole) (d : Directory) (came : List InternalEntry) → whole.seen.facts ≡ old → CanEnd order whole next last_sequence manifest tables d work came → ⊥)
@@ -59,7 +59,7 @@ RefusesEnd order old new next last_sequence manifest tables work Edit = old.fail
 -- ---- over each directory that differs in tables alone
 
 -- All entries of these inputs came to the job, which may be replaced by tables of its level, and
--- what is needed of them is written; no table of the directory has a number that is the job's.
+-- what is needed of them is written. No table of the directory has a number that is the job's.
 pub record HasMergedAll {K : Type 0} {g : _} (order : Order) (facts : Facts) (next : ℕ) (d : Directory) (work : OpenJob K g) (came : List InternalEntry) (inputs rest : List TableContent) : Type 0 where
   pub planned : IsPlanned order (deep_of order.cmp work) work.job.plan d.tables inputs rest
   pub entries : SameEntries (map entry_of came) (tabled inputs)
@@ -82,7 +82,7 @@ EndLeavesOver order old new ideal after next last_sequence manifest tables work 
     IsTrue new.faithful → (d : Directory) (came : List InternalEntry) (inputs rest : List TableContent) → CanEndOver order old ideal next last_sequence manifest tables d work came inputs rest
     → InstallMeans order (deep_of order.cmp work) work.job ideal after next manifest tables came d inputs rest result
 
--- if the store failed at the edit, each table of what is left is one of before, or one that the job
+-- If the store failed at the edit, each table of what is left is one of before, or one that the job
 -- wrote, whose file is there.
 abbrev pub EndPutsOwn : {K : Type 0} {g : _} → Order → Facts → Facts → Files → Files → ℕ → ℕ → CurrentManifest → List PlacedTable → OpenJob K g → Result (Installed K) FlushError → Type 0
 EndPutsOwn order old new ideal after next last_sequence manifest tables work result =
