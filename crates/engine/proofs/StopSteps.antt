@@ -88,7 +88,7 @@ module _ {K : Type 0} {g : _} (order : Order) (source : Seen) (db : OpenDb K g) 
       rests_seen order source db m serving files d good (subst (λ (es : List Entry). IsView es db.memory.last (current m)) entries_are serving.entries.view)
       (subst (λ (es : List Entry). AreAccounted es (entry_count m) (weight m)) entries_are serving.accounted) (sym a.spent)
 
-  -- so do those where the sealed memtable is flushed, or not
+  -- the same for those where the sealed memtable is flushed, or not
   pub means_flushed : SameViewLaw → (files : Files) (next after : ℕ) (entries : List Entry) → MayBeFlushed order serving.ideal files next after entries d serving.log.logs.sealed serving.log.logs.current → MeansAccepted order files m
   means_flushed law files next after entries may = elim may.either [
     | inl still ↦ means_still files still.0

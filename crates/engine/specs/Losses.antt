@@ -128,7 +128,7 @@ abbrev pub SparesBelow : Facts → ℕ → Files → Type 0
 SparesBelow facts bound lost = (n : ℕ) → IsNumbered n → n < bound
     → IsLeftWhole facts lost (name_of (Table n)) × IsLeftWhole facts lost (name_of (OldTable n)) × IsLeftWhole facts lost (name_of (Log n))
 
--- So are those that were there before the open, whose numbers are below that of its MANIFEST.
+-- The same for those that were there before the open, whose numbers are below that of its MANIFEST.
 abbrev pub SparesFound : {K : Type 0} {g : _} → Facts → OpenDb K g → Files → Type 0
 SparesFound facts db lost = SparesBelow facts db.directory.manifest.number lost
 

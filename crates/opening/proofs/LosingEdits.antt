@@ -50,8 +50,8 @@ never o x some none = let bad : Some x ≡ None = sym some ∙ none in cc
 
 -- ---- the file of one name as the loss left it
 
--- These files have it so, and are else as they were before the append; and so are those of the
--- moment after it.
+-- These files have it so, and are else as they were before the append. Those of the moment after it
+-- are too.
 record IsShort (old mid : Facts) (name : List ℕ) (lost files : Files) (left : List ℕ) : Type 0 where
   there : get lost name ≡ Some left
   had : contains_key mid.files name ≡ true

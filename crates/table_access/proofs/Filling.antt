@@ -18,7 +18,7 @@ use Rattle.table.specs.Frame.{Frame, IsFrame}
 use Rattle.table.specs.Refusals.{IsFirstPlace}
 use Rattle.table.specs.Table.{AreAdmitted, AreBounds, ArePairs, IsAtMost, IsBound, IsFilled}
 
--- what the groups of a table have, and so have those of each list that a table may be
+-- what the groups of a table have, and those of each list that a table may be
 pub record IsFilling (cmp : Cmp) (frame : Frame) (groups : List (List Pair)) (entries : List InternalEntry) : Type 0 where
   pub same_length : length frame.places ≡ length groups
   pub bounds : AreBounds cmp frame.places groups

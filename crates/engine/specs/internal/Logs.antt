@@ -95,7 +95,8 @@ abbrev pub SyncsEach : List (List ℕ) → Facts → Facts → Type 0
 SyncsEach [] old new = Idles old new
 SyncsEach (name ∷ names) old new = (mid : Facts) × Adds old mid (Sync name) × (mid.synced ≡ with_synced old.synced name (get old.files name)) × SyncsEach names mid new
 
--- So are these, and after them all something is put after a file; or the calls ended before that.
+-- The same for these, and after them all something is put after a file; or the calls ended before
+-- that.
 pub record SyncsThenPuts (names : List (List ℕ)) (old new : Facts) (puts : Facts → Type 0) : Type 0 where
   pub done : List (List ℕ)
   pub mid : Facts

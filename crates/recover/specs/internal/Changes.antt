@@ -106,7 +106,7 @@ pub record AgreeBeside (old new : Files) (d : Directory) : Type 0 where
   pub logs : (n : ℕ) → IsNumbered n → IsLive d.layout n → get new (name_of (Log n)) ≡ get old (name_of (Log n))
   pub tables : (content : TableContent) → InTables d.tables content → table_at new content.placed.table.number ≡ table_at old content.placed.table.number
 
--- Where the MANIFEST says the same as before, so do these parts, however the bytes end after its
+-- Where the MANIFEST says the same as before, these parts do too, however the bytes end after its
 -- edits.
 abbrev pub SameManifestLaw : Type 0
 SameManifestLaw = (order : Order) (old new : Files) (d : Directory) → IsConsistent order old d
