@@ -67,7 +67,7 @@ AreOperations-push bytes more [] o h k = (more, [], k, refl, ap (λ (x : List �
 AreOperations-push bytes more (p ∷ os) o h k =
     (h.0, h.1 ++ more, h.2, AreOperations-push h.1 more os o h.3 k, ap (λ (x : List ℕ). x ++ more) h.4 ∙ append_assoc h.0 h.1 more)
 
--- the first ones of the operations at the front are these, and what stands behind them is the same
+-- the first ones of the operations at the front are these, and what stands after them is the same
 pub operations_front : (front other x y : List ℕ) (os ps : List Operation) → AreOperations front os → AreOperations other ps → length os ≡ length ps → front ++ x ≡ other ++ y → (os ≡ ps) × (x ≡ y)
 operations_front front other x y [] [] h k len e = (refl, ap (λ (v : List ℕ). v ++ x) (sym h) ∙ e ∙ ap (λ (v : List ℕ). v ++ y) k)
 operations_front front other x y [] (p ∷ ps) h k len e = absurd (omega (arith, len))
@@ -79,7 +79,7 @@ operations_front front other x y (o ∷ os) (p ∷ ps) h k len e =
     let r = operations_front h.1 k.1 x y os ps h.3 k.3 (omega (arith, len)) s.1 in
     (cc (s.0, r.0), r.1)
 
--- where there are more operations than these, another stands behind them
+-- where there are more operations than these, another stands after them
 no_more_front : (front other x y : List ℕ) (os ps : List Operation) → AreOperations front os → AreOperations other ps → length os < length ps → front ++ x ≡ other ++ y → NoOperation x → ⊥
 no_more_front front other x y os [] h k lt e none = omega (arith, lt)
 no_more_front front other x y [] (p ∷ ps) h k lt e none =

@@ -17,7 +17,7 @@ IsOperation [] operation = ⊥
 IsOperation (kind ∷ bytes) (Put key value) = (kind ≡ 1) × (first second : List ℕ) × IsString first key × IsString second value × (bytes ≡ first ++ second)
 IsOperation (kind ∷ bytes) (Delete key) = (kind ≡ 0) × IsString bytes key
 
--- the operations one after the other, and nothing behind them
+-- the operations one after the other, and nothing after them
 abbrev pub AreOperations : List ℕ → List Operation → Type 0
 AreOperations bytes [] = bytes ≡ []
 AreOperations bytes (operation ∷ operations) = (first rest : List ℕ) × IsOperation first operation × AreOperations rest operations × (bytes ≡ first ++ rest)

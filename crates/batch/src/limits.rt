@@ -13,7 +13,9 @@ use coding::DbError;
 /// Counts the bytes that the sequence number and the count take.
 pub const HEADER_LENGTH: usize = 12;
 
-// The longest key, in bytes.
+// The longest key, in bytes. With these limits every length fits its field and every sum its type,
+// and a block with one entry stays below the limit on blocks. (LevelDB has only its 32-bit
+// lengths.)
 const MAX_KEY_LENGTH: usize = 65_535;
 
 // The longest value, in bytes.

@@ -109,7 +109,7 @@ impl Batch {
     }
 
     /// Encodes the batch, whose first operation has this sequence number. The room is taken once,
-    /// before a byte is written.
+    /// before a byte is written. Lengths always fit, since a batch keeps its own below 2^32.
     pub fn encode(&self, alloc: Global, sequence: u64) -> Result<Vec<u8>, DbError>
         requires first { sequence < 2 ^ 56 }
         requires last { sequence + length self.now ≤ 2 ^ 56 }

@@ -24,7 +24,7 @@ most_back : (below : List ℕ → List ℕ → Type 0) → Transitive below → 
 most_back below t a b most up (inl same) = inr (subst (λ (k : List ℕ). below a k) same up)
 most_back below t a b most up (inr less) = inr (t a b most up less)
 
--- a key isn't above the last of those behind it
+-- a key isn't above the last of those after it
 key_to_last : (below : List ℕ → List ℕ → Type 0) → Transitive below → (key : List ℕ) (pairs : List Pair) (most : List ℕ) → AreAbove below (Some key) pairs → AtMost below (last_key_from key pairs) most → AtMost below key most
 key_to_last below t key [] most a h = h
 key_to_last below t key (pair ∷ pairs) most a h = most_back below t key pair.key most a.0 (key_to_last below t pair.key pairs most a.1 h)

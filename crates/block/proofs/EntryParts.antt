@@ -42,7 +42,7 @@ no_third bytes b c n m p q none s r v front x h e =
     let two = behind_number b c h.second (h.third ++ (r ++ (v ++ x))) m (length r) q h.rest_number one.1 in
     none (length v) h.third (r ++ (v ++ x)) h.value_fits h.value_number two.1
 
--- the two lengths, and the key's rest and the value behind them
+-- the two lengths, and the key's rest and the value after them
 three_numbers : (bytes b c d : List ℕ) (n m k : ℕ) → Reads bytes n b → Reads b m c → Reads c k d → (s : ℕ) (r v front x : List ℕ) → IsEntry s r v front → bytes ≡ front ++ x
     → (m ≡ length r) × (k ≡ length v) × (d ≡ r ++ (v ++ x))
 three_numbers bytes b c d n m k p q o s r v front x h e =

@@ -32,7 +32,7 @@ cut_at (p ∷ ps) (suc index) pair more e =
     let c = cut_at ps index pair more e in
     record { front = ap (λ (qs : List Pair). p ∷ qs) c.front; behind = c.behind; found = c.found; inside = omega (arith, c.inside) }
 
--- ---- entries in front of an offset
+-- ---- entries before an offset
 
 entries_push : (offset : ℕ) (previous : List ℕ) (pairs : List Pair) (restarts bytes : List ℕ) (pair : Pair) (shared : ℕ) (rest entry : List ℕ)
     → AreEntries offset previous pairs restarts bytes → IsEntry shared rest pair.value entry → IsKeyBehind (key_behind previous pairs) shared rest pair.key
@@ -218,7 +218,7 @@ front_pairs body pairs index offset h = pairs_found 0 (length (take offset body)
 pub front_index : (body : List ℕ) (pairs : List Pair) (index offset : ℕ) → IsFront body pairs index offset → length (pairs_of (take offset body)) ≡ index
 front_index body pairs index offset h = ap (length {A = Pair}) (front_pairs body pairs index offset h) ∙ length-take-le index pairs h.counted
 
--- an entry in front of which bytes stand has an index above 0
+-- an entry before which bytes stand has an index above 0
 pub index_some : (body : List ℕ) (pairs : List Pair) (index offset : ℕ) → IsFront body pairs index offset → 0 < offset → 0 < index
 index_some body pairs zero offset h some = absurd (omega (arith, some, ap length h.entries.0, length-take-le offset body h.inside))
 index_some body pairs (suc index) offset h some = omega arith

@@ -94,7 +94,7 @@ pub last_of_none : (pairs : List Pair) → length pairs ≡ 0 → None ≡ last_
 last_of_none [] e = refl
 last_of_none (p ∷ ps) e = absurd (omega (arith, e))
 
--- the index in front, where bytes stand in front of the entry
+-- the index in front, where bytes stand before the entry
 pub index_in_front : (body : List ℕ) (pairs : List Pair) (index start : ℕ) → IsFront body pairs index start → 0 < start → (last : ℕ) × (index ≡ suc last)
 index_in_front body pairs zero start f some = absurd (omega (arith, index_some body pairs zero start f some))
 index_in_front body pairs (suc last) start f some = (last, refl)

@@ -61,7 +61,7 @@ only_first : (i r : ℕ) → slice_get (0 ∷ []) i ≡ Some r → 0 < i → ⊥
 only_first zero r e some = omega (arith, some)
 only_first (suc i) r e some = none_there i r e
 
--- a restart behind the first one
+-- a restart after the first one
 pub later_restart : (pairs : List Pair) (restarts body : List ℕ) (i r : ℕ) → IsBody pairs restarts body → slice_get restarts i ≡ Some r → 0 < i → IsEntryStart body pairs r
 later_restart [] restarts body i r h g some = absurd (only_first i r (ap (λ (v : List ℕ). slice_get v i) (sym h.1) ∙ g) some)
 later_restart (pair ∷ pairs) restarts body i r h g some = restart_from body (pair ∷ pairs) 0 0 (pair ∷ pairs) restarts i r (front_zero body (pair ∷ pairs)) refl h.2 g

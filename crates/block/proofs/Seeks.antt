@@ -24,7 +24,7 @@ below_front : (below : List ℕ → List ℕ → Type 0) (target : List ℕ) (pa
 below_front below target [] others h = tt
 below_front below target (p ∷ ps) others h = (h.0, below_front below target ps others h.1)
 
--- one key below the target has all those in front of it below it
+-- one key below the target has all those before it below it
 below_up_to : (below : List ℕ → List ℕ → Type 0) → IsTransitive below → (target : List ℕ) (previous : Option (List ℕ)) (pairs : List Pair) (index : ℕ) (pair : Pair)
     → AreAbove below previous pairs → slice_get pairs index ≡ Some pair → below pair.key target → AreBelow below target (take (suc index) pairs)
 below_up_to below trans target previous [] index pair a g b = absurd (no_pair index pair g)
@@ -42,7 +42,7 @@ none_below below trans target key [] other a = tt
 none_below below trans target key (p ∷ ps) other a =
     let later : below p.key target → ⊥ = λ b. other (trans key p.key target a.0 b) in (later, none_below below trans target p.key ps later a.1)
 
--- one key that isn't below the target has none behind it below it
+-- one key that isn't below the target has none after it below it
 pub none_below_from : (below : List ℕ → List ℕ → Type 0) → IsTransitive below → (target : List ℕ) (previous : Option (List ℕ)) (pairs : List Pair) (index : ℕ) (pair : Pair)
     → AreAbove below previous pairs → slice_get pairs index ≡ Some pair → (below pair.key target → ⊥) → AllByRecursion (λ (p : Pair). below p.key target → ⊥) (drop index pairs)
 none_below_from below trans target previous [] index pair a g other = absurd (no_pair index pair g)

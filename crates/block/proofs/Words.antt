@@ -10,7 +10,7 @@ use Rattle.std.specs.Prelude.{nat_eq}
 use Rattle.std.specs.List.{common_prefix_len}
 use Rattle.coding.specs.Fixed.{fixed64}
 
--- behind a front that both have, they go on sharing as what is left does
+-- after a front that both have, they go on sharing as what is left does
 behind_front : (k : ℕ) (xs ys : List ℕ) → k ≤ length xs → k ≤ length ys → take k xs ≡ take k ys
     → common_prefix_len nat_eq xs ys ≡ k + common_prefix_len nat_eq (drop k xs) (drop k ys)
 behind_front zero xs ys p q e = omega arith

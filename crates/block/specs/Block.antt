@@ -26,12 +26,12 @@ pub record IsEntry (shared : ℕ) (rest value bytes : List ℕ) : Type 0 where
 abbrev pub IsKeyBehind : List ℕ → ℕ → List ℕ → List ℕ → Type 0
 IsKeyBehind previous shared rest key = (shared ≤ length previous) × (key ≡ take shared previous ++ rest)
 
--- a restart may stand at an entry that shares nothing; `later` are the restarts behind this entry's
+-- a restart may stand at an entry that shares nothing; `later` are the restarts after this entry's
 -- offset
 abbrev pub TakesRestart : ℕ → ℕ → List ℕ → List ℕ → Type 0
 TakesRestart offset shared restarts later = (restarts ≡ later) ⊎ ((shared ≡ 0) × (restarts ≡ offset ∷ later))
 
--- From an offset on, behind the key `previous`, the bytes are the entries of these pairs; of their
+-- From an offset on, after the key `previous`, the bytes are the entries of these pairs; of their
 -- offsets these are restarts.
 abbrev pub AreEntries : ℕ → List ℕ → List Pair → List ℕ → List ℕ → Type 0
 AreEntries offset previous [] restarts bytes = (bytes ≡ []) × (restarts ≡ [])
@@ -55,7 +55,7 @@ abbrev pub last_key_from : List ℕ → List Pair → List ℕ
 last_key_from key [] = key
 last_key_from key (pair ∷ pairs) = last_key_from pair.key pairs
 
--- the restarts and their number, as they stand behind the entries
+-- the restarts and their number, as they stand after the entries
 abbrev pub trailer : List ℕ → List ℕ
 trailer restarts = flat_map fixed32 restarts ++ fixed32 (length restarts)
 

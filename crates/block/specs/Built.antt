@@ -12,7 +12,7 @@ use Rattle.block.specs.Written.{AreWritten, Added, shared_at, or_first, key_behi
 abbrev pub entry_length : ℕ → Pair → ℕ
 entry_length shared pair = varint_length shared + varint_length (length pair.key - shared) + varint_length (length pair.value) + (length pair.key - shared) + length pair.value
 
--- how many bytes the entries take from an index on, behind the key `previous`
+-- how many bytes the entries take from an index on, after the key `previous`
 abbrev pub entries_length : ℕ → ℕ → List ℕ → List Pair → ℕ
 entries_length interval index previous [] = 0
 entries_length interval index previous (pair ∷ pairs) =
@@ -47,7 +47,7 @@ PushesEntry is_restart previous key value old new =
     let shared = if is_restart then 0 else common_prefix_len nat_eq previous key in
     (rest entry : List ℕ) × IsEntry shared rest value entry × IsKeyBehind previous shared rest key × (new ≡ old ++ entry)
 
--- what is pushed to the restarts behind the first one
+-- what is pushed to the restarts after the first one
 abbrev pub restart_of : Bool → Bool → ℕ → List ℕ
 restart_of true false offset = offset ∷ []
 restart_of is_restart is_first offset = []

@@ -7,13 +7,13 @@ use Rattle.block.specs.Block.{IsEntry, IsKeyBehind, AreEntries, AllSmall, IsBody
 use Rattle.block.specs.Reading.{Contents, pairs_of}
 use Rattle.block.specs.Written.{key_behind}
 
--- an entry begins at this offset that can be read behind the key `previous`
+-- an entry begins at this offset that can be read after the key `previous`
 abbrev pub IsReadable : List ℕ → List ℕ → ℕ → Type 0
 IsReadable body previous offset =
     (shared : ℕ) × (rest value entry behind : List ℕ) × IsEntry shared rest value entry × (shared ≤ length previous)
     × (offset ≤ length body) × (drop offset body ≡ entry ++ behind)
 
--- the entry at this offset behind the key `previous` has this key, begins at `start`, and its value
+-- the entry at this offset after the key `previous` has this key, begins at `start`, and its value
 -- and the next entry begin at `value` and `next`
 pub record IsRead (body previous : List ℕ) (offset : ℕ) (key : List ℕ) (start value next : ℕ) : Type 0 where
   pub shared : ℕ
@@ -28,13 +28,13 @@ pub record IsRead (body previous : List ℕ) (offset : ℕ) (key : List ℕ) (st
   pub value_is : value + length value_bytes ≡ next
   pub parts : drop offset body ≡ entry ++ drop next body
 
--- the entries in front of this offset are the first `index` pairs
+-- the entries before this offset are the first `index` pairs
 pub record IsFront (body : List ℕ) (pairs : List Pair) (index offset : ℕ) : Type 0 where
   pub inside : offset ≤ length body
   pub counted : index ≤ length pairs
   pub entries : AreEntries 0 [] (take index pairs) [] (take offset body)
 
--- so they are, the entries from there on are the other pairs, and reading on behind the key
+-- so they are, the entries from there on are the other pairs, and reading on after the key
 -- `previous` gives them
 pub record IsBefore (body : List ℕ) (pairs : List Pair) (index : ℕ) (previous : List ℕ) (offset : ℕ) : Type 0 where
   pub front : IsFront body pairs index offset
@@ -73,8 +73,8 @@ AreBelow below target pairs = AllByRecursion (λ (pair : Pair). below pair.key t
 abbrev pub IsStart : List ℕ → ℕ → Type 0
 IsStart body offset = (index : ℕ) × IsBefore body (pairs_of body) index [] offset
 
--- Reading can start at this restart in front of the offset; and the restart behind it, if there is
--- one, doesn't stand in front.
+-- Reading can start at this restart before the offset; and the restart after it, if there is one,
+-- doesn't stand in front.
 pub record IsLastInFront (body list : List ℕ) (offset restart : ℕ) : Type 0 where
   pub starts : IsStart body restart
   pub less : restart < offset
@@ -82,7 +82,7 @@ pub record IsLastInFront (body list : List ℕ) (offset restart : ℕ) : Type 0 
   pub found : slice_get list index ≡ Some restart
   pub above : (next : ℕ) → slice_get list (suc index) ≡ Some next → offset ≤ next
 
--- reading can start at this offset, and the keys in front of it are below the target
+-- reading can start at this offset, and the keys before it are below the target
 abbrev pub StartsBelow : (List ℕ → List ℕ → Type 0) → List ℕ → List ℕ → ℕ → Type 0
 StartsBelow below target body offset =
     (index : ℕ) × IsBefore body (pairs_of body) index [] offset × AreBelow below target (take index (pairs_of body))
@@ -92,8 +92,8 @@ abbrev pub StartsNotBelow : (List ℕ → List ℕ → Type 0) → List ℕ → 
 StartsNotBelow below target body offset =
     (index : ℕ) × IsBefore body (pairs_of body) index [] offset × ((pair : Pair) → slice_get (pairs_of body) index ≡ Some pair → below pair.key target → ⊥)
 
--- Reading can start at this restart with the keys in front of it below the target; and the entry at
--- the restart behind it, if there is one, isn't below it.
+-- Reading can start at this restart with the keys before it below the target; and the entry at the
+-- restart after it, if there is one, isn't below it.
 pub record IsLastBelow (below : List ℕ → List ℕ → Type 0) (target body restarts : List ℕ) (restart : ℕ) : Type 0 where
   pub starts : StartsBelow below target body restart
   pub has : HasRestarts body restarts
@@ -101,7 +101,7 @@ pub record IsLastBelow (below : List ℕ → List ℕ → Type 0) (target body r
   pub found : slice_get has.list index ≡ Some restart
   pub above : (next : ℕ) → slice_get has.list (suc index) ≡ Some next → StartsNotBelow below target body next
 
--- this is the first entry whose key isn't below the target, as all keys in front of it are
+-- this is the first entry whose key isn't below the target, as all keys before it are
 abbrev pub IsFound : (List ℕ → List ℕ → Type 0) → List ℕ → List ℕ → List Pair → List ℕ → ℕ → ℕ → ℕ → Type 0
 IsFound below target body pairs key start value next =
     (index : ℕ) × IsSpot body pairs index key start value next × AreBelow below target (take index pairs) × (below key target → ⊥)

@@ -9,8 +9,8 @@ use Rattle.block.specs.Block.{IsEntry, IsKeyBehind, trailer}
 abbrev pub shared_at : ℕ → ℕ → List ℕ → List ℕ → ℕ
 shared_at interval index previous key = if index % interval == 0 then 0 else common_prefix_len nat_eq previous key
 
--- From an index and an offset on, behind the key `previous`, the bytes are what is written for
--- these pairs.
+-- From an index and an offset on, after the key `previous`, the bytes are what is written for these
+-- pairs.
 abbrev pub AreWritten : ℕ → ℕ → ℕ → List ℕ → List Pair → List ℕ → List ℕ → Type 0
 AreWritten interval index offset previous [] restarts bytes = (bytes ≡ []) × (restarts ≡ [])
 AreWritten interval index offset previous (pair ∷ pairs) restarts bytes =

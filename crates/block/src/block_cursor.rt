@@ -122,7 +122,8 @@ impl<O: EntryOrder> BlockCursor<O> {
         Ok(())
     }
 
-    /// Moves to the next entry, or nowhere if there is none. An `Err` leaves the place.
+    /// Moves to the next entry, or nowhere if there is none. An `Err` leaves the place. (Without a
+    /// place to move from, the engine answers NoPlace.)
     pub fn next(&mut self) -> Result<(), AllocError>
         requires { IsSome self.old.place }
         ensures ok { OnOk result (self.new ≡ record self.old { place = option_and_then (index_behind self.old.pairs) self.old.place }) }
@@ -139,6 +140,7 @@ impl<O: EntryOrder> BlockCursor<O> {
     }
 
     /// Moves to the previous entry, or nowhere if there is none. An `Err` leaves the place.
+    /// (Without a place to move from, the engine answers NoPlace.)
     pub fn prev(&mut self) -> Result<(), AllocError>
         requires { IsSome self.old.place }
         ensures ok { OnOk result (self.new ≡ record self.old { place = option_and_then index_before self.old.place }) }

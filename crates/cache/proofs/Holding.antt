@@ -59,7 +59,7 @@ pub answered_if : (cmp : List ℕ → List ℕ → Ordering) (content : ℕ → 
 answered_if cmp content number index (Ok pairs) h = h pairs refl
 answered_if cmp content number index (Err e) h = tt
 
--- and so are those that are kept afterwards
+-- and those that are kept afterwards are too
 pub holds_more : (cmp : List ℕ → List ℕ → Ordering) (content : ℕ → Option (List ℕ)) (before after : List KeptBlock) (number : ℕ) (index : ℕ) (answer : Result (List Pair) DbError)
     → ((kept : KeptBlock) → Contains after kept → Contains before kept ⊎ IsAnswered kept number index answer)
     → HoldsBlocks cmp content before → ((pairs : List Pair) → answer ≡ Ok pairs → IsBlockOf cmp content number index pairs) → HoldsBlocks cmp content after

@@ -121,9 +121,8 @@ OpensFile cmp files number table =
 abbrev pub TableAnswers : Facts → Facts → ℕ → (List ℕ → Type 0) → Type 0
 TableAnswers old new number is = IsTrue new.faithful → (file : List ℕ) → table_at old.files number ≡ Some file → is file
 
--- Why a table isn't opened. Out of memory, while no call of the store failed, or since one failed;
--- Corrupt, where of a faithful store it has no file or is damaged; Unsupported, where it has no
--- file or isn't supported.
+-- Why a table isn't opened. Out of memory: no call of the store failed, or one did. Corrupt: in a
+-- faithful store it has no file or is damaged. Unsupported: it has no file or isn't supported.
 abbrev pub RefusesTable : DbError → Facts → Facts → ℕ → (List ℕ → Type 0) → (List ℕ → Type 0) → Type 0
 RefusesTable OutOfMemory old new number damaged unsupported = new.failures ≡ old.failures
 RefusesTable Io old new number damaged unsupported = old.failures < new.failures

@@ -25,10 +25,9 @@ type Pushed<K> = Result<
 >;
 
 /// Holds blocks that were read, up to a number of them, by the number of their table and their
-/// index in it (LevelDB's util/cache.cc). If there are too many, the least recently used goes. The
-/// memory of the block that went last is kept, unless somebody still reads that: the next one is
-/// read into it. Contracts see the blocks that are kept, the most recently used first, and how many
-/// there may be.
+/// index in it (LevelDB's util/cache.cc). If there are too many, the least recently used goes. Its
+/// memory is kept, unless somebody still reads it: the next block is read into it. Contracts see
+/// the blocks that are kept, the most recently used first, and how many there may be.
 #[derive(Drop)]
 pub struct BlockCache<K: KeyOrder> {
     // None where nothing is ever kept.

@@ -31,7 +31,7 @@ over_block bytes first second third fourth len fits e0 e1 e2 e3 register =
     ∙ over_word_at bytes 12 r3 fourth (omega arith) fits e3
     ∙ ap (register_after r4) (nil_from_length (drop 16 bytes) (omega (arith, length-drop 16 bytes)))
 
--- A register is moved over a block and has a word added to it, and so has the word behind it. Four
+-- A register is moved over a block and has a word added to it, and so has the word after it. Four
 -- bytes further, the two sums are the sum of what each part leads to.
 next_words : (register word next after : ℕ) → shifted_by 32 (bit_xor (bit_xor (shifted_by 128 register) word) (bit_xor (shifted_by 128 next) after)) ≡ bit_xor (shifted_by 128 (shifted_by 32 (bit_xor register next))) (shifted_by 32 (bit_xor word after))
 next_words register word next after =
@@ -39,7 +39,7 @@ next_words register word next after =
     ∙ linear 32 (shifted_by 128 (bit_xor register next)) (bit_xor word after)
     ∙ ap (λ (v : ℕ). bit_xor v (shifted_by 32 (bit_xor word after))) (shifts_commute 32 128 (bit_xor register next))
 
--- where a sum has a word behind it, the word stays with one of its parts
+-- where a sum has a word after it, the word stays with one of its parts
 parted : (register words word : ℕ) → shifted_by 32 (bit_xor (bit_xor register words) word) ≡ bit_xor (shifted_by 32 register) (shifted_by 32 (bit_xor words word))
 parted register words word = ap (shifted_by 32) (xor_assoc register words word) ∙ linear 32 register (bit_xor words word)
 
@@ -50,7 +50,7 @@ block_ahead register =
     ∙ ap (shifted_by 32) (sym (shifted_by-add 64 32 register))
     ∙ sym (shifted_by-add 96 32 register)
 
--- a register and the block behind it: a sum of what each leads to
+-- a register and the block after it: a sum of what each leads to
 apart : (register w0 w1 w2 w3 : ℕ) → register_over_words (bit_xor register w0) w1 w2 w3 ≡ bit_xor (shifted_by 128 register) (register_over_words w0 w1 w2 w3)
 apart register w0 w1 w2 w3 =
     let r1 : ℕ = shifted_by 32 register in

@@ -1,4 +1,4 @@
--- What stands at the front of the same bytes is the same, and so is what stands behind it.
+-- What stands at the front of the same bytes is the same, and so is what stands after it.
 use Rattle.std.proofs.Common.{◌≡◌, ℕ, ◌+◌, ◌^◌, ◌<◌, ◌≤◌, List, ◌++◌, length, take, drop, refl, sym, ap, ◌∙◌, append_assoc, arith}
 use Rattle.std.specs.Int.{w32, w64, from_le_bytes}
 use Rattle.std.proofs.lemmas.List.{take_at, drop_at, append_cancel_left, length-append, length-take, take-append-drop}
@@ -36,7 +36,7 @@ string_front a b x y t u p q e =
     let s = varint_front p.front q.front (t ++ x) (u ++ y) (length t) (length u) p.number q.number (sym left ∙ e ∙ right) in
     same_front t u x y s.0 s.1
 
--- a number at the front and the text behind it are a string
+-- a number at the front and the text after it are a string
 pub made_string : (bytes : List ℕ) (used len : ℕ) → used ≤ length bytes → len ≤ length (drop used bytes) → len < 2 ^ 32 → IsVarint (take used bytes) len
     → (front : List ℕ) × IsString front (take len (drop used bytes)) × (bytes ≡ front ++ drop len (drop used bytes))
 made_string bytes used len within fits small number =

@@ -1,4 +1,4 @@
--- Laws of spellings one behind the other.
+-- Laws of spellings one after the other.
 use Rattle.std.proofs.Common.{◌≡◌, ℕ, List, ◌++◌, refl, sym, ap, ◌∙◌, append_assoc}
 use Rattle.coding.specs.Spelling.{InTurn, Begins, BeginsNone, Appends, IsPrefixFree}
 

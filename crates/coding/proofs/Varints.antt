@@ -26,7 +26,7 @@ pub one_at_front : (bytes : List ℕ) (i j m n : ℕ) → IsVarint (take i bytes
 one_at_front bytes i j m n p q =
     (one_spelling (take i bytes) (take j bytes) (drop i bytes) (drop j bytes) m n p q (take-append-drop i bytes ∙ sym (take-append-drop j bytes))).1
 
--- behind a byte that isn't the last stands a number
+-- after a byte that isn't the last stands a number
 behind : (b : ℕ) (rest : List ℕ) (n : ℕ) → 128 ≤ b → IsVarint (b ∷ rest) n → (high : ℕ) × (0 < high) × (n + 128 ≡ b + 128 * high) × IsVarint rest high
 behind b [] n more p = absurd (omega (arith, p.0, more))
 behind b (c ∷ rest) n more p = (p.2, p.3, p.4, p.5)
@@ -45,7 +45,7 @@ pub low_in_front : (rest : ℕ) (tail : List ℕ) → 128 ≤ rest → IsVarint 
 low_in_front rest [] more p = absurd p
 low_in_front rest (c ∷ tail) more p = (omega arith, omega arith, rest / 128, omega arith, omega arith, p)
 
--- a front stays while bytes are added behind it
+-- a front stays while bytes are added after it
 pub front_stays : (front bytes more : List ℕ) → take (length front) bytes ≡ front → take (length front) (bytes ++ more) ≡ front
 front_stays front bytes more e =
     let fits : length front ≤ length bytes = omega (arith, length-take (length front) bytes, ap length e) in

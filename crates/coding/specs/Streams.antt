@@ -1,4 +1,4 @@
--- The register of CRC-32C where it lags behind by four words. Only private functions speak of it.
+-- The register of CRC-32C when it lags behind by four words. Only private functions speak of it.
 use Rattle.std.specs.Prelude.{ℕ, bit_xor}
 use Rattle.coding.specs.declared.checksum.streams.Streams.{Streams}
 use Rattle.coding.specs.Checksum.{shifted_by}

@@ -1,4 +1,4 @@
--- Numbers of varying width, and strings behind their length (LevelDB's util/coding.h:
+-- Numbers of varying width, and strings after their length (LevelDB's util/coding.h:
 -- EncodeVarint32, EncodeVarint64 and PutLengthPrefixedSlice).
 use Rattle.std.specs.Prelude.{◌≡◌, ◌<◌, ◌≤◌, ◌+◌, ◌*◌, ℕ, List, [], ◌∷◌, ◌++◌, ◌^◌, length, nat_lt, if◌then◌else◌}
 

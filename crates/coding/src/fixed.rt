@@ -27,8 +27,8 @@ pub fn put_fixed64(out: &mut Vec<u8>, value: u64) -> Result<(), AllocError>
     out.extend_from_slice(&bytes)
 }
 
-/// Reads the number of four bytes at the front. Bytes may follow it; `None` if there are fewer than
-/// four.
+/// Reads the number of four bytes at the front: its value alone, since what it takes is known.
+/// Bytes may follow it; `None` if there are fewer than four.
 pub fn get_fixed32(bytes: &[u8]) -> Option<u32>
     ensures range { IfSome result (λ value. value < 2 ^ 32) }
     ensures found { IfSome result (λ value. take 4 bytes.now ≡ fixed32 value) }
@@ -40,8 +40,8 @@ pub fn get_fixed32(bytes: &[u8]) -> Option<u32>
     Some(LittleEndian::read_u32(bytes))
 }
 
-/// Reads the number of eight bytes at the front. Bytes may follow it; `None` if there are fewer
-/// than eight.
+/// Reads the number of eight bytes at the front: its value alone, since what it takes is known.
+/// Bytes may follow it; `None` if there are fewer than eight.
 pub fn get_fixed64(bytes: &[u8]) -> Option<u64>
     ensures range { IfSome result (λ value. value < 2 ^ 64) }
     ensures found { IfSome result (λ value. take 8 bytes.now ≡ fixed64 value) }

@@ -25,7 +25,7 @@ number_last (first ∷ cs) table number same =
     let rest = number_last cs table number same in
     (suc rest.0, rest.1, omega (arith, rest.2), rest.3, rest.4)
 
--- the table at hand has pairs, so it is one of those that were ended
+-- the table at hand has pairs: it is one of those that were ended
 pub owns_closed : (cmp : List ℕ → List ℕ → Ordering) (cs : List TableFile) (t : Filling) (a b : Facts) (next : ℕ) (pairs : List Pair) (out : Option TableFile)
     → ((rest : List Pair) → IsFilling cmp t a rest → ClosesTable cmp b t.number rest out) → HasWritten cmp (record { closed = cs; at_hand = Some t }) a next pairs
     → (number : ℕ) → IsOwn (record { closed = cs; at_hand = Some t }) number → IsOwn (record { closed = cs ++ option_to_list out; at_hand = None }) number

@@ -6,7 +6,7 @@ pub draws-most : (user : List ℕ) (old new : ℕ) (w : TablesWritten) → Draws
 draws-most user old new w (inl same) = omega (arith, same)
 draws-most user old new w (inr h) = h.0
 
--- what comes behind draws none where the table at hand ends with the key
+-- what comes after draws none where the table at hand ends with the key
 pub draws-then : (user : List ℕ) (old middle new : ℕ) (w : TablesWritten) → DrawsFor user old middle w → new ≤ middle + 1 → (HandsUser w user → new ≡ middle) → new ≤ old + 1
 draws-then user old middle new w (inl same) most none = omega (arith, same, most)
 draws-then user old middle new w (inr h) most none = omega (arith, h.0, none h.1)

@@ -75,7 +75,7 @@ load-part P pairs kept came are well part =
     let most = room-part P (map entry_of came) (map entry_of kept) part in
     omega (arith, all, same, most)
 
--- ---- a pair behind others
+-- ---- a pair after others
 
 pub load-pair : (pair : Pair) (entry : InternalEntry) → IsPair pair entry → IsWellKept entry → load 56 (pair ∷ []) ≡ room_of (entry_of entry ∷ [])
 unfolding load
@@ -153,7 +153,7 @@ too-many-deletes user sequences i pairs new kept lt are more h =
     let second = room-append (map f (take i sequences)) (f s ∷ []) in
     omega (arith, h, all, some, front, parts, first, second)
 
--- they alone are too many, and so they are with an entry behind them
+-- they alone are too many, and they still are with an entry after them
 pub too-many-more : (pairs : List Pair) (entries : List Entry) (entry : Entry) → AreTooMany pairs entries → AreTooMany pairs (entries ++ entry ∷ [])
 too-many-more pairs entries entry h = (let all = room-append entries (entry ∷ []) in omega (arith, h, all))
 

@@ -201,7 +201,7 @@ merge-step cmp deep a b d last over c e w u next more came entry choice over_is 
       new.2.goes_on,
     )
 
--- ---- before the first entry, and behind the last
+-- ---- before the first entry, and after the last
 
 pub merging-none : (cmp : List ℕ → List ℕ → Ordering) (deep : List ℕ → Bool) (last : List ℕ) (c : Choosing) (w : TablesWritten) (facts : Facts) (next : ℕ)
     → last ≡ [] → Chooses cmp deep c [] [] → HasWritten cmp w facts next [] → IsMerging cmp deep last c w facts next []

@@ -34,7 +34,7 @@ none-left came (entry ∷ rest) e = let t : true ≡ false = sym (ap is_some (st
 pub not-ended : (came back : List InternalEntry) → is_some (within (came ++ back) (length came)) ≡ true → back ≡ [] → ⊥
 not-ended came back e none = let found = some-left came back e in let t : found.0 ∷ found.1 ≡ [] = sym found.2 ∙ none in cc
 
--- the place behind
+-- the next place
 pub moved : (came : List InternalEntry) (entry : InternalEntry) (rest : List InternalEntry)
     → listed (came ++ entry ∷ rest) (option_and_then (index_behind (came ++ entry ∷ rest)) (within (came ++ entry ∷ rest) (length came)))
     ≡ listed ((came ++ entry ∷ []) ++ rest) (within ((came ++ entry ∷ []) ++ rest) (length (came ++ entry ∷ [])))

@@ -43,7 +43,7 @@ older m n Put Delete h same = elim (cases_lt n m) [
   | inr more ↦ (let e : m ≡ n = omega (arith, h, more) in let t : Put ≡ Delete = same e in absurd cc)
 ]
 
--- the key comes behind the other in user key or sequence number
+-- the key comes after the other in user key or sequence number
 abbrev pub IsBehind : Cmp → Key → Key → Type 0
 IsBehind cmp last next = (cmp last.user next.user ≡ Less) ⊎ ((last.user ≡ next.user) × (next.sequence < last.sequence))
 

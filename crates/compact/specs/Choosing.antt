@@ -49,7 +49,7 @@ pub record IsChosen (deep : List ℕ → Bool) (c : Choosing) (came chosen : Lis
   pub within : c.unseen ≤ length c.snapshots
   pub below : (k : ℕ) → k < c.unseen → (entry : Entry) → Among came entry → entry.key ≡ c.key → slice_index c.snapshots k < entry.sequence
   pub above : (k : ℕ) → c.unseen ≤ k → k < length c.snapshots → (entry : Entry) × Among came entry × (entry.key ≡ c.key) × (entry.sequence ≤ slice_index c.snapshots k)
-  -- behind the last entry of this key that was chosen, what the snapshots see are the deletes that
+  -- after the last entry of this key that was chosen, what the snapshots see are the deletes that
   -- wait
   pub settled : List Entry
   pub others : List Entry

@@ -8,7 +8,7 @@ abbrev pub IsTurn : {H S : Type 0} → (S → Facts) → (H → S) → (H → S 
 IsTurn {H} {S} facts store_of with_store moves mine old new =
     moves old new ⊎ ((store : S) × (new ≡ with_store old store) × WritesTables (facts (store_of old)) (facts store) mine)
 
--- so many of them, one behind the other
+-- so many of them, one after the other
 abbrev pub AreTurns : {H S : Type 0} → (S → Facts) → (H → S) → (H → S → H) → (H → H → Type 0) → (ℕ → Type 0) → ℕ → H → H → Type 0
 AreTurns facts store_of with_store moves mine zero old new = new ≡ old
 AreTurns {H} facts store_of with_store moves mine (suc n) old new =

@@ -41,8 +41,8 @@ abbrev pub IsWellKept : InternalEntry → Type 0
 IsWellKept entry = entry.value ≡ value_kept (value_of entry.key.kind entry.value)
 
 -- These entries of the inputs came, and of them those were written that are needed. The last has
--- this key, and none comes behind it. Each came before all that came later, whatever the name of
--- the order is.
+-- this key, and none comes after it. Each came before all that came later, whatever the name of the
+-- order is.
 pub record IsMerging (cmp : Cmp) (deep : List ℕ → Bool) (last : List ℕ) (c : Choosing) (w : TablesWritten) (facts : Facts) (next : ℕ) (came : List InternalEntry) : Type 0 where
   pub written : List Pair
   pub kept : List InternalEntry
@@ -77,8 +77,8 @@ ReadsApart {C} {H} {S} facts store_of with_store gathers keeps cursor mine =
 
 -- ---- both
 
--- These entries came to the job, and those are left: what is needed of the former is written, and
--- what is to be written is nothing that is read, or that is kept of a table beside the store.
+-- These entries came to the job, and those are left. What is needed of the former is written. What
+-- is still to be written is nothing that is read, or that is kept of a table beside the store.
 pub record IsJob {C H S : Type 0} (cmp : Cmp) (deep : List ℕ → Bool) (facts : S → Facts) (store_of : H → S) (with_store : H → S → H) (gathers : H → ℕ → Type 0) (lists : C → H → Listed → Type 0) (keeps : C → H → H → Type 0) (over : C → ℕ → Type 0)
     (last : List ℕ) (cursor : C) (c : Choosing) (w : TablesWritten) (source : H) (next : ℕ) (came rest : List InternalEntry) : Type 0 where
   pub merging : IsMerging cmp deep last c w (facts (store_of source)) next came
@@ -115,7 +115,7 @@ IsLimited limited job source = limited job.cursor source
 abbrev pub ReadsIntact : {K C H : Type 0} → (C → H → Cut → Type 0) → Job K C → H → Type 0
 ReadsIntact torn job source = (cut : Cut) → torn job.cursor source cut → ⊥
 
--- All that came was merged into these tables, and the edit puts them in the place of the inputs.
+-- All that came was merged into these tables, and the edit puts them instead of the inputs.
 abbrev pub IsFinished : Cmp → (List ℕ → Bool) → JobPlan → List ℕ → Choosing → Facts → ℕ → ℕ → List InternalEntry → List Field → Type 0
 IsFinished cmp deep plan last c facts next last_sequence came edit =
     (tables : List TableFile) × IsEditOf plan.output_level plan.inputs.items plan.compact_pointer tables next last_sequence edit

@@ -16,9 +16,9 @@ pub record IsOlderPut (entries : List Entry) (sequences : List ℕ) (entry put :
   pub is_put : IsSome put.value
   pub visible : IsSeenBySome entries sequences put
 
--- The entry is to be kept, where `deep` are the keys that a file below the output level covers:
--- some of the sequence numbers sees it, and if it is a delete, there may still be something for it
--- to hide.
+-- The entry must be kept, where `deep` are the keys that a file below the output level covers. Some
+-- of the sequence numbers sees it, and if it is a delete, there may still be something for it to
+-- hide.
 pub record IsNeeded (entries : List Entry) (sequences : List ℕ) (deep : List ℕ → Bool) (entry : Entry) : Type 0 where
   pub visible : IsSeenBySome entries sequences entry
   pub hides : entry.value ≡ None → IsTrue (deep entry.key) ⊎ ((put : Entry) × IsOlderPut entries sequences entry put)

@@ -13,7 +13,7 @@ unfoldable pub load : ℕ → List Pair → ℕ
 load more [] = 0
 load more (pair ∷ pairs) = length pair.key + length pair.value + more + load more pairs
 
--- These pairs, and these entries behind them, need more bytes than a block may have.
+-- These pairs, and these entries after them, need more bytes than a block may have.
 abbrev pub AreTooMany : List Pair → List Entry → Type 0
 AreTooMany pairs entries = 2 ^ 30 < load 56 pairs + room_of entries
 

@@ -192,7 +192,7 @@ is_own old Full h = tt
 is_own old Foreign h = absurd h
 is_own old (Refused e) h = absurd h
 
--- ---- calls one behind the other
+-- ---- calls one after the other
 
 pub leads_as : {a b : Facts} {P Q : Machine → Type 0} {M N : Machine → Machine → Type 0} → ((m n : Machine) → M m n → N m n) → Leads a b P Q M → Leads a b P Q N
 leads_as f h = record { faithful = h.faithful; moved = λ faithful m before. let after = h.moved faithful m before in (after.0, f m after.0 after.1, after.2) }

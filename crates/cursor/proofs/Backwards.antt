@@ -18,13 +18,12 @@ use Rattle.cursor.proofs.Singles.{leading_at}
 use Rattle.cursor.proofs.Befores.{get_among, same_get, rises_get, itself, later_older, put_behind_delete, later_no_lower, no_lower_cases, less_or_not, no_less_itself}
 use Rattle.cursor.proofs.Onwards.{true_not_false}
 
--- the index is this one or behind it
+-- the index is this one or after it
 from_cases : (k n : ℕ) → n ≤ k → (k ≡ n) ⊎ (suc n ≤ k)
 from_cases k n h = elim (cases_lt n k) [ inl l ↦ inr (omega (arith, l)) | inr le ↦ inl (omega (arith, h, le)) ]
 
 module _ (cmp : Cmp) (total : IsTotalOrder cmp) (exact : IsAntisymmetric cmp) (entries : List InternalEntry) (rises : Rises cmp entries) (sequence : ℕ) (test : List ℕ → Bool) where
-  -- what stands from the candidate's index on decides, where all in front of it have lower user
-  -- keys
+  -- what stands from the candidate's index on decides, where all before it have lower user keys
   found_back : {C S : Type 0} (lists : C → S → Listed → Type 0) (cursor : C) (source : S) (n : ℕ) (key value : List ℕ) (h : IsCandidate cmp entries sequence test n key value)
       → ((k : ℕ) (entry : InternalEntry) → k < n → slice_get entries k ≡ Some entry → cmp entry.key.user h.entry.key.user ≡ Less)
       → lists cursor source (listed entries (index_before n)) → FoundBack cmp lists cursor source entries sequence test key value
@@ -66,7 +65,7 @@ module _ (cmp : Cmp) (total : IsTotalOrder cmp) (exact : IsAntisymmetric cmp) (e
     is_x : (k : ℕ) (other : InternalEntry) → k ≡ n → slice_get entries k ≡ Some other → other ≡ x
     is_x k other s e = same_get entries n other x (subst (λ (i : ℕ). slice_get entries i ≡ Some other) s e) at
 
-    -- the entry in front of the candidate has another user key
+    -- the entry before the candidate has another user key
     pub ends_back : {C S : Type 0} (lists : C → S → Listed → Type 0) (cursor : C) (source : S) (key value : List ℕ) → IsCandidate cmp entries sequence test (suc n) key value
         → (x.key.user ≡ key → ⊥) → lists cursor source (listed entries (Some n)) → FoundBack cmp lists cursor source entries sequence test key value
     ends_back lists cursor source key value h other on =
@@ -182,7 +181,7 @@ module _ (cmp : Cmp) (total : IsTotalOrder cmp) (exact : IsAntisymmetric cmp) (e
         (subst (λ (u : List ℕ). SearchesBack cmp entries sequence test n has u value_now) (sym p.found_is)
         (subst (λ (w : List ℕ). SearchesBack cmp entries sequence test n has key w) (sym p.value_is) (skips_same has key value h p.same p.why)))
 
-  -- in front of the first entry
+  -- before the first entry
   pub front_back : {C S : Type 0} (lists : C → S → Listed → Type 0) (cursor : C) (source : S) (has : Bool) (key value : List ℕ) → SearchesBack cmp entries sequence test 0 has key value → lists cursor source (listed entries None)
       → AnswersBack cmp lists cursor source entries sequence test key value has
   front_back lists cursor source true key value h on = found_back lists cursor source 0 key value h (λ k entry less e. absurd (omega (arith, less))) on

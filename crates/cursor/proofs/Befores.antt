@@ -68,7 +68,7 @@ module _ (cmp : Cmp) (total : IsTotalOrder cmp) (exact : IsAntisymmetric cmp) wh
     | inr h ↦ same_kind_tag k.sequence l.sequence k.kind l.kind h.1
   ]
 
-  -- a put behind a delete is older
+  -- a put after a delete is older
   pub put_behind_delete : (k l : Key) → key_cmp cmp k l ≡ Less → k.user ≡ l.user → k.kind ≡ Delete → l.kind ≡ Put → l.sequence < k.sequence
   put_behind_delete k l e same d p = elim (before_cases k l e) [
     | inl h ↦ absurd (itself l.user (subst (λ (a : List ℕ). cmp a l.user ≡ Less) same h))

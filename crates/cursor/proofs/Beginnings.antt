@@ -75,7 +75,7 @@ newer_tag m n Delete Put h = omega (arith, h)
 newer_tag m n Put Delete h = omega (arith, h)
 newer_tag m n Put Put h = omega (arith, h)
 
--- what stands in front of a put of its user key is newer
+-- what stands before a put of its user key is newer
 put_newest : (m n : ℕ) (k l : Kind) → l ≡ Put → m ≤ n → tag n l < tag m k → ⊥
 put_newest m n Delete Put p h t = omega (arith, h, t)
 put_newest m n Put Put p h t = omega (arith, h, t)
@@ -89,7 +89,7 @@ module _ (cmp : Cmp) (total : IsTotalOrder cmp) (exact : IsAntisymmetric cmp) wh
   up_to_lower user low high e t =
       of_not (is_less (cmp user low)) (no_lower_then cmp total exact low high user (less_or_not cmp total exact low high e) (not_true (is_less (cmp user high)) t))
 
-  -- ---- from the first entry, or from behind the last
+  -- ---- from the first entry, or from after the last
 
   pub from_first : (entries : List InternalEntry) (sequence : ℕ) (hidden : List ℕ) → SearchesOn cmp entries sequence (λ (user : List ℕ). false) 0 false hidden
   from_first entries sequence hidden = record {
@@ -171,7 +171,7 @@ module _ (cmp : Cmp) (total : IsTotalOrder cmp) (exact : IsAntisymmetric cmp) wh
       key_initial : (x y : InternalEntry) → key_cmp cmp x.key y.key ≡ Less → is_below cmp h.key y ≡ true → is_below cmp h.key x ≡ true
       key_initial x y e t = is_less_of (key_cmp cmp x.key h.key) ((key_total cmp total).trans x.key y.key h.key e (less_is (key_cmp cmp y.key h.key) t))
 
-      -- an entry in front of it that is seen has a lower user key
+      -- an entry before it that is seen has a lower user key
       lower_if_seen : (x : InternalEntry) → is_below cmp h.key x ≡ true → x.key.sequence ≤ sequence → cmp x.key.user user ≡ Less
       lower_if_seen x t seen =
           let below = less_is (key_cmp cmp x.key h.key) t in

@@ -16,7 +16,7 @@ use Rattle.cursor.proofs.Passing.{below_initial}
 use Rattle.cursor.proofs.Unions.{no_less, not_less_itself}
 
 module _ (cmp : Cmp) (o : IsTotalOrder cmp) (place : Key) (list : List InternalEntry) (rises : Rises cmp list) where
-  -- behind the last entry that comes before a key
+  -- after the last entry that comes before a key
   behind_last : (last : Option InternalEntry) → last_passing (is_below cmp place) list ≡ last → SameCut cmp list (behind_entry last) (Below place)
   behind_last None e x m = sym (none_passing cmp (is_below cmp place) list x rises (below_initial cmp o place list) e m)
   behind_last (Some last) e x m = elim (true_or_false (is_less (key_cmp cmp x.key place))) [
@@ -38,7 +38,7 @@ module _ (cmp : Cmp) (o : IsTotalOrder cmp) (place : Key) (list : List InternalE
   pub next_behind : SameCut cmp list (next_cut (listed list (behind (is_below cmp place) list))) (Below place)
   next_behind = subst (λ (last : Option InternalEntry). SameCut cmp list (behind_entry last) (Below place)) (sym (entry_behind (is_below cmp place) list)) (behind_last (last_passing (is_below cmp place) list) refl)
 
-  -- in front of the first entry that doesn't
+  -- before the first entry that doesn't
   in_front_of_first : (first : Option InternalEntry) → first_failing (is_below cmp place) list ≡ first → SameCut cmp list (in_front_of_entry first) (Below place)
   in_front_of_first None e x m = sym (none_failing (is_below cmp place) list x e m)
   in_front_of_first (Some first) e x m = elim (true_or_false (is_less (key_cmp cmp x.key place))) [

@@ -34,7 +34,7 @@ older_tag m n Put Put p h = omega (arith, h)
 older_tag m n k Delete p h = let bad : Delete ≡ Put = p in absurd cc
 
 module _ (cmp : Cmp) (total : IsTotalOrder cmp) (exact : IsAntisymmetric cmp) (sequence : ℕ) where
-  -- a put behind an entry of its user key is older
+  -- a put after an entry of its user key is older
   put_older : (x e : InternalEntry) → key_cmp cmp x.key e.key ≡ Less → x.key.user ≡ e.key.user → e.key.kind ≡ Put → e.key.sequence < x.key.sequence
   put_older x e less same put = elim (before_cases cmp total exact x.key e.key less) [
     | inl h ↦ absurd (itself cmp total exact e.key.user (subst (λ (a : List ℕ). cmp a e.key.user ≡ Less) same h))
@@ -45,7 +45,7 @@ module _ (cmp : Cmp) (total : IsTotalOrder cmp) (exact : IsAntisymmetric cmp) (s
     behind_x : (e : InternalEntry) → Among rest e → key_cmp cmp x.key e.key ≡ Less
     behind_x e m = all_among (λ (later : InternalEntry). key_cmp cmp x.key later.key ≡ Less) rest e rises.0 m
 
-    -- what is visible behind the entry is visible with it, where it isn't one of its user key that
+    -- what is visible after the entry is visible with it, where it isn't one of its user key that
     -- is seen
     more : (e : InternalEntry) → (x.key.user ≡ e.key.user → x.key.sequence ≤ sequence → ⊥) → IsVisible rest sequence e → IsVisible (x ∷ rest) sequence e
     more e apart v = (

@@ -15,7 +15,7 @@ use Rattle.cursor.specs.Searches.{SearchesOn, FoundOn, Hidden, Takes, Hides, Pas
 use Rattle.cursor.proofs.Fronts.{among_get}
 use Rattle.cursor.proofs.Befores.{get_among, same_get, rises_get, later_older, put_behind_delete, later_no_lower, neither_below, no_lower_cases, no_less_itself}
 
--- an index is in front, the same or behind
+-- an index is before, the same or after
 pub index_cases : (k n : ℕ) → (k < n) ⊎ ((k ≡ n) ⊎ (suc n ≤ k))
 index_cases k n = elim (cases_lt k n) [
   | inl l ↦ inl l
@@ -154,7 +154,7 @@ module _ (cmp : Cmp) (total : IsTotalOrder cmp) (exact : IsAntisymmetric cmp) (e
         fails true e = let hid = h.left n x (omega arith) at e in absurd (p.shown (hid.0, sym hid.1))
         fails false e = e
 
-  -- behind the last entry
+  -- after the last entry
   pub none_on : (n : ℕ) (hides : Bool) (hidden : List ℕ) → length entries ≤ n → SearchesOn cmp entries sequence test n hides hidden → (entry : InternalEntry) → IsVisible entries sequence entry → test entry.key.user ≡ true
   none_on n hides hidden long h entry v =
       let place = get_among entries entry v.0.member in

@@ -22,9 +22,9 @@ use Rattle.cursor.proofs.Turns.{beside_moved}
 some_same : (i k : ℕ) → Some i ≡ Some k → i ≡ k
 some_same i k e = cc
 
--- ---- how many stand in front of an entry
+-- ---- how many stand before an entry
 
--- the entry isn't behind the key
+-- the entry isn't after the key
 abbrev pub is_up_to : Cmp → Key → InternalEntry → Bool
 is_up_to cmp key entry = not (is_less (key_cmp cmp key entry.key))
 

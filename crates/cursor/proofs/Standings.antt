@@ -16,7 +16,7 @@ use Rattle.cursor.proofs.Beginnings.{at_entry, behind_entry, user_between, again
 use Rattle.cursor.proofs.Befores.{same_get, no_less_itself}
 use Rattle.cursor.proofs.Onwards.{index_cases}
 
--- from the last in front to the first behind
+-- from the last before to the first after
 pub ahead_next : {A : Type 0} (xs : List A) (n : ℕ) → is_some (index_before n) ≡ true → (i : ℕ) × (index_before n ≡ Some i) × (within xs n ≡ index_behind xs i)
 ahead_next xs zero e = absurd cc
 ahead_next xs (suc n) e = (n, refl, refl)
@@ -59,7 +59,7 @@ module _ {C S : Type 0} (cmp : Cmp) (total : IsTotalOrder cmp) (exact : IsAntisy
           subst (StandsBetween cmp entries at.0) (sym same) (at_entry cmp total exact entries (rises c s (listed entries place) l) sequence at.0 entry at.2),
         )
 
-    -- from the entry itself to the one behind it
+    -- from the entry itself to the one after it
     pub here_past : (place : Option ℕ) (i : ℕ) → lists c s (listed entries place) → slice_get entries i ≡ Some entry → lists d t (listed entries (within entries (suc i)))
         → (index : ℕ) × lists d t (listed entries (within entries index)) × StandsBetween cmp entries index user
     here_past place i l e behind =

@@ -5,21 +5,21 @@ use Rattle.ikey.specs.Keys.{Key, key_cmp}
 use Rattle.ikey.specs.Views.{Among}
 use Rattle.cursor.specs.Places.{Cmp, Listed, is_less}
 
--- in front of all entries, behind all, or beside a key
+-- before all entries, after all, or beside a key
 pub data Cut : Type 0 where
   Front : Cut
   End : Cut
   Below : Key → Cut
   Above : Key → Cut
 
--- the key lies in front of the cut
+-- the key lies before the cut
 abbrev pub is_in_front : Cmp → Cut → Key → Bool
 is_in_front cmp Front key = false
 is_in_front cmp End key = true
 is_in_front cmp (Below place) key = is_less (key_cmp cmp key place)
 is_in_front cmp (Above place) key = not (is_less (key_cmp cmp place key))
 
--- the same entries lie in front of both cuts
+-- the same entries lie before both cuts
 abbrev pub SameCut : Cmp → List InternalEntry → Cut → Cut → Type 0
 SameCut cmp entries a b = (entry : InternalEntry) → Among entries entry → is_in_front cmp a entry.key ≡ is_in_front cmp b entry.key
 

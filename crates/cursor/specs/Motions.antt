@@ -99,7 +99,7 @@ abbrev pub end_place : End → (InternalEntry → Bool) → List InternalEntry �
 end_place Least test = ahead test
 end_place Greatest test = behind test
 
--- what stands in front of an entry that passes the test passes it
+-- what stands before an entry that passes the test passes it
 abbrev pub IsInitial : Cmp → (InternalEntry → Bool) → List InternalEntry → Type 0
 IsInitial cmp test union =
     (entry later : InternalEntry) → Among union entry → Among union later → key_cmp cmp entry.key later.key ≡ Less → test later ≡ true → test entry ≡ true

@@ -25,7 +25,7 @@ pub record Wanders {C S : Type 0} (facts : S → Facts) (lists : C → S → Lis
 abbrev pub PassesLower : Cmp → (List ℕ → Bool) → Type 0
 PassesLower cmp test = (low high : List ℕ) → cmp low high ≡ Less → test high ≡ true → test low ≡ true
 
--- so of each entry in front of the index, or from it on
+-- so of each entry before the index, or from it on
 abbrev pub InFront : List InternalEntry → ℕ → (InternalEntry → Type 0) → Type 0
 InFront entries index is = (k : ℕ) (entry : InternalEntry) → k < index → slice_get entries k ≡ Some entry → is entry
 
@@ -39,9 +39,9 @@ pub record StandsBetween (cmp : Cmp) (entries : List InternalEntry) (index : ℕ
 
 -- ---- forth
 
--- A search for the first visible entry whose user key fails the test has come to this index: it has
--- passed none, and from here on it hides the entries of the hidden user key, where it hides one,
--- and of no other does it know any.
+-- A search for the first visible entry whose user key fails the test has come to this index. It has
+-- passed none. From here on it hides the entries of the hidden user key, if it hides one, and it
+-- knows of no entry of another one.
 pub record SearchesOn (cmp : Cmp) (entries : List InternalEntry) (sequence : ℕ) (test : List ℕ → Bool) (index : ℕ) (hides : Bool) (hidden : List ℕ) : Type 0 where
   pub lower : PassesLower cmp test
   pub passed : InFront entries index (λ entry. IsVisible entries sequence entry → test entry.key.user ≡ true)
@@ -101,8 +101,8 @@ RefusesKey error bytes = ⊥
 -- ---- back
 
 -- A candidate of a search back from this index, for the last visible entry whose user key passes
--- the test: of the entries from the index on the newest of its user key, which is the lowest there,
--- and a put.
+-- the test. Of the entries from the index on it is the newest of its user key, which is the lowest
+-- there, and a put.
 pub record IsCandidate (cmp : Cmp) (entries : List InternalEntry) (sequence : ℕ) (test : List ℕ → Bool) (index : ℕ) (key value : List ℕ) : Type 0 where
   pub place : ℕ
   pub entry : InternalEntry

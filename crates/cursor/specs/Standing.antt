@@ -8,8 +8,8 @@ use Rattle.cursor.specs.Merging.{listed, behind}
 use Rattle.cursor.specs.Motions.{entry_at}
 use Rattle.cursor.specs.Views.{is_user_below}
 
--- the cursor beneath stands at this position beside the pair of a visible entry; the value is kept
--- where it is behind
+-- the cursor beneath stands at this position beside the pair of a visible entry; at `Behind` the
+-- value is kept
 abbrev pub StandsAt : {C S : Type 0} → Cmp → (C → S → Listed → Type 0) → Position → C → S → List InternalEntry → InternalEntry → List ℕ → Type 0
 StandsAt cmp lists Here cursor source entries entry value =
     (place : Option ℕ) × lists cursor source (listed entries place) × (entry_at entries place ≡ Some entry)

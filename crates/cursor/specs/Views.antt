@@ -14,7 +14,7 @@ pub record IsNewest (entries : List InternalEntry) (sequence : ℕ) (entry : Int
   pub seen : entry.key.sequence ≤ sequence
   pub greatest : (other : InternalEntry) → Among entries other → other.key.user ≡ entry.key.user → other.key.sequence ≤ sequence → other.key.sequence ≤ entry.key.sequence
 
--- so it is, and a put
+-- the same, and a put
 abbrev pub IsVisible : List InternalEntry → ℕ → InternalEntry → Type 0
 IsVisible entries sequence entry = IsNewest entries sequence entry × (entry.key.kind ≡ Put)
 

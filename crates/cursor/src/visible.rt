@@ -14,7 +14,8 @@ use std::mem;
 
 /// Holds an iteration over the pairs that are visible at a sequence number: of each user key the
 /// newest entry up to it, if that is a put. The cursor beneath lists all entries. An `Err` leaves
-/// the place and the key; the value can be asked for again once a move has succeeded.
+/// the place and the key: the next move seeks that key again. The value can be asked for again once
+/// a move has succeeded.
 #[derive(Drop)]
 pub struct Visible<K: KeyOrder, C> {
     cursor: C,

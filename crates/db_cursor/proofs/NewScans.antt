@@ -259,7 +259,7 @@ seen_current cmp memory sequence = seen_entries cmp memory.current.inserts seque
 abbrev pub seen_sealed : Cmp → Memories → ℕ → List InternalEntry
 seen_sealed cmp memory sequence = seen_entries cmp (sealed_inserts memory) sequence
 
--- that of the sealed table, where there is one, in front of others
+-- that of the sealed table, where there is one, before others
 abbrev pub in_front : Cmp → Memories → ℕ → Option ℕ → List (List InternalEntry) → List (List InternalEntry)
 in_front cmp memory sequence None lists = lists
 in_front cmp memory sequence (Some named) lists = seen_sealed cmp memory sequence ∷ lists
@@ -364,7 +364,7 @@ module _ {K : Type 0} {g : _} (order : Order) (whole : Whole) (tables : List Pla
           ),
         )
 
-    -- the memtables' entries in front of those of the tables
+    -- the memtables' entries before those of the tables
     pub all_listed : (cursors : List (SourceCursor K g)) → map spot_of cursors ≡ memory_spots sequence whole.memory.generation whole.memory.sealed ++ spots_of tables (all_ranges tables) → Listing whole.memory.sealed cursors
     all_listed cursors e = listed_with whole.memory.sealed cursors refl e
 
@@ -393,7 +393,7 @@ module _ {K : Type 0} {g : _} (order : Order) (whole : Whole) (tables : List Pla
     },
   )
 
-  -- so it is where the lists are searched one after the other, since they have a union
+  -- the same holds if the lists are searched one after the other, since they have a union
   pub merge_begun : HaveUnions order.cmp → (children : List (Child (SourceCursor K g))) (target : List ℕ) (lists : List (List InternalEntry)) → AllByRecursion (λ (child : Child (SourceCursor K g)). child.side ≡ Astray) children
       → AllTwo Lists (cursors_of children) lists → AreSearched (all_entries lists) → (union : List InternalEntry) × IsUnion order.cmp lists union × IsMerge order.cmp (ListsSource order.cmp) children None target whole (listed union None)
   merge_begun unions children target lists astray both searched =

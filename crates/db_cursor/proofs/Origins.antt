@@ -20,7 +20,7 @@ use Rattle.table.specs.Frame.{Frame, IsFrame}
 use Rattle.version_laws.specs.Places.{HasVersion, MayHold}
 use Rattle.version_laws.proofs.Fitting.{fits}
 
--- What a file may have that is behind the origin's frame, it may have behind its own.
+-- What a file may have that has the origin's frame, it may have with its own.
 module _ (cmp : Cmp) (placed : PlacedTable) (file whole : List ℕ) (from : MayComeFrom cmp placed file whole) where
   same_groups : (frame : Frame) (entries : List InternalEntry) → IsFrame cmp file frame → MayHave cmp placed whole frame entries → MayHave cmp placed file frame entries
   same_groups frame entries is has = record {

@@ -82,7 +82,7 @@ take_none : {A : Type 0} (xs : List A) → take 0 xs ≡ []
 take_none [] = refl
 take_none (x ∷ xs) = refl
 
--- the tables of a level lie behind those of lower ones
+-- the tables of a level come after those of lower ones
 pub level_slice : (level : ℕ) (contents : List TableContent) → LevelsRise contents → take (length (contents_at level contents)) (drop (below level (placed_of contents)) contents) ≡ contents_at level contents
 level_slice level [] h = refl
 level_slice level (c ∷ contents) h = at (level_slice level contents h.1) (nat_lt c.placed.level level) (c.placed.level == level) (grind (arith, nat_tests)) (grind (arith, nat_tests)) (grind (arith, nat_tests))

@@ -12,9 +12,9 @@ use Rattle.table_access.specs.Ends.{IsIntactIn}
 use Rattle.table_access.specs.Possible.{MayBeTable}
 use Rattle.version_laws.specs.Places.{HasVersion, MayHaveVersion}
 
--- The file may be what damage left of this table of an edit, which had the other bytes: a frame
--- that it has is that of the whole, and each block of it that is one, as its place in the index and
--- the edit say, is the whole's at that place, with the same pairs.
+-- The file may be what damage left of this table of an edit, which had the other bytes. A frame
+-- that it has is that of the whole. Each block of it that is one, as its place in the index and the
+-- edit say, is the whole's at that place, with the same pairs.
 pub record MayComeFrom (cmp : Cmp) (placed : PlacedTable) (file whole : List ℕ) : Type 0 where
   pub framed : (frame : Frame) → IsFrame cmp file frame → IsFrame cmp whole frame
   pub blocks : (frame : Frame) (index : ℕ) (pairs : List Pair) → IsFrame cmp file frame → IsIntactIn cmp placed file frame.places index pairs → IsIntactIn cmp placed whole frame.places index pairs
@@ -28,7 +28,7 @@ pub record HasOrigin (cmp : Cmp) (files ideal : Files) (placed : PlacedTable) : 
   pub ideal_there : table_at ideal placed.table.number ≡ Some whole
   pub origin : MayComeFrom cmp placed bytes whole
 
--- so it is of each of these tables
+-- the same holds of each of these tables
 abbrev pub HaveOrigins : Cmp → Files → Files → List PlacedTable → Type 0
 HaveOrigins cmp files ideal tables = (placed : PlacedTable) → Contains tables placed → HasOrigin cmp files ideal placed
 

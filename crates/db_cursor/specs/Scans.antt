@@ -106,9 +106,9 @@ pub record IsScan {K : Type 0} {g : _} (cmp : Cmp) (scan : Scan K g) (whole : Wh
   pub intact : (cut : Cut) → IsScanTorn cmp scan whole cut → ⊥
   pub walk : IsWalk cmp (ListsMerged cmp) scan.walk whole at
 
--- A new scan over a version of these tables, up to a sequence number, goes over the pairs of the
--- view of whichever contents they may have, as far as their blocks tell, in the order of their
--- keys, and has no place.
+-- A new scan over a version of these tables, up to a sequence number, goes over the pairs of a view
+-- in the order of their keys, and has no place. It is the view of whichever contents the tables may
+-- have, as far as their blocks tell.
 abbrev pub MayBeginScan : {K : Type 0} {g : _} → Order → List PlacedTable → ℕ → Whole → Scan K g → Type 0
 MayBeginScan order tables sequence whole scan = (contents : List TableContent) (view : Contents) → sequence ≤ whole.memory.last
     → IsSound order.cmp whole.seen → MayHaveVersion (MayBeTable order.cmp) order whole.seen.facts.files tables contents → IsNewerThan (logged_in whole.memory) (joined (table_sources contents))

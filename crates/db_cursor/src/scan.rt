@@ -13,7 +13,9 @@ use std::rc::Rc;
 use store::Store;
 use versions::Version;
 
-/// Holds an iteration over the pairs of a view, in the order of their keys.
+/// Holds an iteration over the pairs of a view, in the order of their keys. Which tables it reads
+/// is said by its cursors as they are, and by the version that it was made over. Who removes files
+/// asks for both.
 #[derive(Drop)]
 pub struct Scan<K: KeyOrder> {
     walk: Visible<K, Merge<K, SourceCursor<K>>>,

@@ -9,7 +9,7 @@ use Rattle.store.proofs.Carrying.{carries_both, carries_more, carries_same, carr
 pub carries_none : (facts : Facts) (mine : List ℕ → Type 0) → CarriesBut facts facts mine
 carries_none facts mine = carries_same facts facts mine refl refl refl
 
--- ---- tables, and an edit behind the MANIFEST
+-- ---- tables, and an edit after the MANIFEST
 
 pub carries_edit : (old mid new : Facts) (mine : List ℕ → Type 0) → WritesOnly old mid mine → CarriesBut mid new (λ (q : List ℕ). ⊥) → CarriesBut old new mine
 carries_edit old mid new mine writes edit =

@@ -1,4 +1,4 @@
--- The removal of files that aren't live.
+-- The removal of obsolete files.
 use Rattle.std.proofs.Common.{◌≡◌, ◌≢◌, ◌⊎◌, ◌↔◌, ℕ, ◌+◌, ◌<◌, ◌&&◌, Bool, true, false, not, cond, List, [], ◌∷◌, ◌++◌, map, take, get_or, length, string_bytes, String, Option, Some, None, is_some, IsSome, Result, Ok, Err, IsTrue, MatchBool, inl, inr, refl, sym, ap, subst, ◌∙◌, arith}
 use Rattle.std.proofs.Math.Bool.{beq}
 use Rattle.std.specs.Option.{option_or}
@@ -65,7 +65,7 @@ module _ (old new : Facts) (live : FileName → Type 0) (name : List ℕ) where
     | inr later ↦ absurd (in_none (name_of file) later)
   ]
 
-  -- the store was asked to take it away, and it isn't live
+  -- the store was asked to remove it, and it is obsolete
   pub asked : (r : Result (Unit {0}) StoreError) → IsDead live name → Counts old new r
       → Changes old new r (λ o n. StoreRemoves o n name) (λ o n. (n ≡ o) ⊎ StoreRemoves o n name)
       → ChangesSynced old new r (λ s. with_synced s name None) (λ o n. StoreRemoves o n name)
@@ -163,7 +163,7 @@ module _ (live : FileName → Type 0) (has_older : ℕ → Type 0) where
   this_turn false true file has same other = absurd (let clash : true ≡ false = same in cc)
   this_turn false false file has same other = has other
 
-  -- what isn't left isn't live
+  -- what isn't left is obsolete
   dead_of : (last : Bool) (q : List ℕ) → IsDead (IsLeft live has_older last) q → IsDead live q
   dead_of last q dead = (dead.0, dead.1, dead.2, λ alive. dead.3 (inl alive))
 
@@ -580,7 +580,7 @@ pub names_more : (xs : List (String Global)) (i : ℕ) (x : String Global) (byte
 names_more xs i x bytes lt is e =
     ap (λ (b : List ℕ). map string_bytes (take i xs) ++ b ∷ []) (e ∙ ap string_bytes is) ∙ sym (ap (map string_bytes) (take_more xs i x lt) ∙ map-append string_bytes (take i xs) (get_or xs i x ∷ []))
 
--- What is there behind a removal is live by what is there.
+-- What is there after a removal is live by what is there.
 module _ (numbers : LiveNumbers) (in_use : ℕ → Type 0) (old new : Facts) (removal : Removal) (r : RemovesDead old new (IsLiveAmong old.files numbers in_use) (Ok removal)) (f : IsTrue new.faithful) where
   still : (q : List ℕ) → contains_key new.files q ≡ true → contains_key old.files q ≡ true
   still q = there_still old new (IsLiveAmong old.files numbers in_use) q (r.files f q)

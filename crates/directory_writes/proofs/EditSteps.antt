@@ -1,4 +1,4 @@
--- An edit behind the MANIFEST.
+-- An edit after the MANIFEST.
 use Rattle.std.proofs.Common.{◌≡◌, ◌⊎◌, ℕ, ◌+◌, ◌-◌, ◌<◌, ◌≤◌, ◌%◌, Bool, true, false, cond, List, [], ◌∷◌, ◌++◌, length, take, Some, is_some, Ok, Err, IsTrue, inl, inr, refl, sym, ap, subst, ◌∙◌, arith}
 use Rattle.std.specs.List.{AllByRecursion}
 use Rattle.std.specs.Cmp.Lexicographic.{slice_cmp, nat_list_cmp_total}
@@ -105,7 +105,7 @@ all_or_nothing law position payload added written adds bytes records n long log 
 
 module _ (order : Order) (files : Files) (number end : ℕ) (edits : List (List Field)) (layout next : Layout) (edit : List Field) (payload added before : List ℕ)
     (can : CanAddEdit order files number (name_of (Manifest number)) end edits layout edit next) (there : get files (name_of (Manifest number)) ≡ Some before) (spelled : IsEdit payload edit) where
-  -- what stands behind the MANIFEST
+  -- what stands after the MANIFEST
   abbrev behind : List ℕ → Files
   behind bytes = insert files (name_of (Manifest number)) (before ++ bytes)
 
@@ -226,7 +226,7 @@ module _ (order : Order) (old new : Facts) (number : ℕ) (name : List ℕ) (end
             ];
       }
 
--- ---- a stop in the middle
+-- ---- a process crash in the middle
 
 module _ (order : Order) (old : Facts) (number : ℕ) (name : List ℕ) (end : ℕ) (edit : List Field) where
   abbrev pub StoppedEdit : Files → Type 0

@@ -1,4 +1,4 @@
--- How many of the files that aren't live a removal leaves.
+-- How many of the obsolete files a removal leaves.
 use Rattle.std.proofs.Common.{◌≡◌, ◌≢◌, ◌↔◌, ℕ, ◌<◌, Bool, true, false, List, [], ◌∷◌, ◌++◌, length-append, Result, Ok, Err, IsTrue, inl, inr, refl, sym, subst, ◌∙◌, arith}
 use Rattle.std.specs.Prelude.{Contains}
 use Rattle.std.specs.FinMap.{contains_key}

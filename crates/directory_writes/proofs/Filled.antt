@@ -80,7 +80,7 @@ pub synced_now : (old : Synced) (name : List ℕ) (content : Option (List ℕ)) 
 synced_now old name content = ap (λ (b : Bool). cond b content (old name)) (ap is_eq (tied_itself nat_list_cmp_total name))
 
 module _ (cmp : List ℕ → List ℕ → Ordering) (inserts : List Entry) where
-  -- ---- an entry behind those in front
+  -- ---- an entry after those in front
 
   below_last : (front : List Placed) (one : Placed) (later : List Placed) (previous : Option (List ℕ))
       → ((last : List ℕ) → previous ≡ Some last → IsBelowInternal cmp last (internal_key one.entry))

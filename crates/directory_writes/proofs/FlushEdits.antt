@@ -52,7 +52,7 @@ said_last said es e = ap (last_said said) (fields_last es e) ∙ last_said-appen
 
 -- ---- the fields
 
--- with these behind the new table
+-- with these after the new table
 abbrev with_more : ℕ → ℕ → ℕ → TableFile → List Field → List Field
 with_more log next_file last table more = LogNumber log ∷ NextFileNumber next_file ∷ LastSequence last ∷ NewFile (record { level = 0; table = table }) ∷ more
 

@@ -112,7 +112,7 @@ module _ {K : Type 0} (order : Order) (old : Facts) (next after : ℕ) (plan : F
         (edit_too order mid new s.0 behind s.2 (differs_after old.files new.files whole behind d c) stays manifest.number (string_bytes manifest.name) manifest.end prepared.edit (Err e) r)
         f dir sealed current can
 
--- ---- a stop in the middle
+-- ---- a process crash in the middle
 
 module _ (order : Order) (old : Facts) (next after : ℕ) (plan : FlushPlan) (manifest : CurrentManifest) (entries : List Entry) (tables : List PlacedTable) where
   abbrev pub StoppedEach : Files → Type 0

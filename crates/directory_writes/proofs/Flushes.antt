@@ -116,7 +116,7 @@ module _ {K : Type 0} (order : Order) (old : Facts) (next after : ℕ) (plan : F
               (written g) prepared.edit p.fields p.limit flush same new f (subst A io r))
         ]
 
--- ---- a stop in the middle
+-- ---- a process crash in the middle
 
 module _ (order : Order) (old : Facts) (next after : ℕ) (plan : FlushPlan) (manifest : CurrentManifest) (entries : List Entry) (tables : List PlacedTable) where
   abbrev pub StoppedFlush : Files → Type 0

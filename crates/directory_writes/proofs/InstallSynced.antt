@@ -39,7 +39,7 @@ puts_closed cmp facts old level [] ts h = tt
 puts_closed cmp facts old level (table ∷ tables) [] h = absurd h
 puts_closed cmp facts old level (table ∷ tables) (pairs ∷ ts) h = (inr (h.0.file, h.0.has, h.0.synced), puts_closed cmp facts old level tables ts h.1)
 
--- behind the edit of a job
+-- after the edit of a job
 pub put_synced : (cmp : List ℕ → List ℕ → Ordering) (deep : List ℕ → Bool) (plan : JobPlan) (last : List ℕ) (c : Choosing) (facts : Facts) (next last_sequence : ℕ) (came : List InternalEntry) (edit : List Field) (old new : List PlacedTable)
     → AreInOrder cmp old → LeadsLayout (after_edit edit) old new → IsFinished cmp deep plan last c facts next last_sequence came edit → AreOldOrSynced facts old new
 put_synced cmp deep plan last c facts next last_sequence came edit old new order leads done placed there =

@@ -236,7 +236,7 @@ module _ {K C : Type 0} (order : Order) (job : Job K C) (next last_sequence : �
         same e which
         (edit_too order mid new s.0 behind s.2 (differs_after old.files new.files whole behind d c) stays manifest.number (string_bytes manifest.name) manifest.end prepared.edit (Err e) r)
 
--- ---- a stop in the middle
+-- ---- a process crash in the middle
 
 module _ {K C : Type 0} (order : Order) (job : Job K C) (next last_sequence : ℕ) (fits : next < 2 ^ 64) (numbered : AreNumbered job.outputs next) (old mid : Facts) (w : WritesTables old mid (IsNumberAtHand job.outputs)) (manifest : CurrentManifest) (f : IsTrue mid.faithful) where
   abbrev pub StoppedEach : List PlacedTable → Files → Type 0
@@ -251,7 +251,7 @@ module _ {K C : Type 0} (order : Order) (job : Job K C) (next last_sequence : �
       let stopped = writes-stopped there behind (IsNumberAtHand job.outputs) (w.faithful f) (λ q out. c.stays q (kept q out)) in
       (table_stopped order job next last_sequence fits numbered there (stopped_at there behind) stopped manifest refl tables).now) (w.calls f).leaves
 
-  -- while the edit is put behind the MANIFEST
+  -- while the edit is put after the MANIFEST
   pub install_stopped_each : SameManifestLaw → (new : Facts) (version : Placement) (prepared : PreparedJob K) (p : HasPreparedJob order.cmp job old mid next last_sequence version prepared)
       → LeavesOnly mid new (λ files. AppendsEdit order mid (stopped_at mid files) manifest.number (string_bytes manifest.name) manifest.end prepared.edit (Err Io))
       → LeavesOnly old new (StoppedEach version.tables)

@@ -149,7 +149,7 @@ module _ {K C : Type 0} (order : Order) (job : Job K C) (next last_sequence : �
               (p.synced deep came (t.faithful g) can.merging))
         ]
 
--- ---- a stop in the middle
+-- ---- a process crash in the middle
 
 module _ {K C : Type 0} (order : Order) (job : Job K C) (next last_sequence : ℕ) (fits : next < 2 ^ 64) (numbered : AreNumbered job.outputs next) (old mid : Facts) (w : WritesTables old mid (IsNumberAtHand job.outputs)) (manifest : CurrentManifest) (f : IsTrue mid.faithful) where
   -- while the last table is ended
@@ -170,7 +170,7 @@ module _ {K C : Type 0} (order : Order) (job : Job K C) (next last_sequence : �
       let left = uninstalled order job next last_sequence fits numbered old (stopped_at old files) stopped refl deep manifest tables came d inputs rest can in
       inl (subst (λ (ps : List PlacedTable). Contains ps placed) (same_tables order files x d good left.served.consistent) there)) (w.calls f).leaves
 
-  -- while the edit is put behind the MANIFEST
+  -- while the edit is put after the MANIFEST
   pub install_stopped : SameManifestLaw → (new : Facts) (version : Placement) (prepared : PreparedJob K) (p : HasPreparedJob order.cmp job old mid next last_sequence version prepared)
       → LeavesOnly mid new (λ files. AppendsEdit order mid (stopped_at mid files) manifest.number (string_bytes manifest.name) manifest.end prepared.edit (Err Io))
       → LeavesOnly old new (InstallMayLeave order job old next last_sequence manifest version.tables)

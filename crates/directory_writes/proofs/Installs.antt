@@ -1,4 +1,4 @@
--- The edit of a job behind the MANIFEST.
+-- The edit of a job after the MANIFEST.
 use Rattle.std.proofs.Common.{◌≡◌, ◌<◌, ◌≤◌, ◌^◌, ℕ, suc, Bool, List, [], ◌∷◌, ◌++◌, length, map, Some, Option, All, Contains, Ok, Err, IsTrue, string_bytes, inl, inr, refl, sym, ap, subst, ◌∙◌, arith}
 use Rattle.std.specs.Global.{Vec}
 use Rattle.std.specs.List.{AllByRecursion}
@@ -125,7 +125,7 @@ among_fit n (t ∷ tables) p h (inr a) = among_fit n tables p h.1 a
 pub same_tables : (order : Order) (files : Files) (x y : Directory) → IsConsistent order files x → IsConsistent order files y → x.layout.tables.items ≡ y.layout.tables.items
 same_tables order files x y a b = sym a.placed ∙ ap placed_in (same_directory order files x y a b).3 ∙ b.placed
 
--- ---- the layout behind it
+-- ---- the layout after it
 
 abbrev pub with_items : {X : Type 0} (v : Vec X) (items : List X) → length items < 2 ^ 63 → Vec X
 with_items v items short = record { ptr = v.ptr; len = length items; cap = length items; alloc = v.alloc; items = items; ok = (refl, omega arith); small = short }
@@ -251,7 +251,7 @@ module _ {K C : Type 0} (order : Order) (job : Job K C) (next last_sequence : �
         let r = can.served.free.recorded d.manifest d.edits d.layout can.served.consistent.manifest in
         record { next_file_number = omega arith; log_number = r.1; previous_log_number = r.2; named = named }
 
-    -- ---- the files behind it
+    -- ---- the files after it
 
     module _ (new : Files) (others : KeepsOthers mid.files new (string_bytes manifest.name)) where
       others_named : KeepsOthers mid.files new (name_of (Manifest d.manifest))

@@ -16,7 +16,7 @@ use Rattle.directory_writes.proofs.FlushEdits.{after_last, order_more, all_field
 
 -- ---- the fields of the edit
 
--- in front of the files are two numbers and perhaps a pointer
+-- before the files are two numbers and perhaps a pointer
 abbrev pub front_of : ℕ → ℕ → ℕ → Option (List ℕ) → List Field
 front_of level next last pointer = NextFileNumber next ∷ LastSequence last ∷ pointer_fields level pointer
 

@@ -1,4 +1,4 @@
--- The tables of a directory with the outputs of a job in the place of its inputs.
+-- The tables of a directory with the outputs of a job instead of its inputs.
 use Rattle.std.proofs.Common.{◌≡◌, ◌≢◌, ◌==◌, ◌&&◌, ◌⊎◌, ◌<◌, ℕ, zero, suc, Bool, true, false, cond, Option, Some, None, option_and_then, option_map, List, [], ◌∷◌, ◌++◌, map, inl, inr, refl, sym, ap, subst, ◌∙◌, arith, append_assoc, append-nil}
 use Rattle.std.proofs.lemmas.Bool.{and_right, ne_eqb}
 use Rattle.std.proofs.lemmas.Bool.Decides.{nat_tests}
@@ -37,7 +37,7 @@ in_order_front [] gs h = tt
 in_order_front (f ∷ []) gs h = tt
 in_order_front (f ∷ g ∷ fs) gs h = (h.0, in_order_front (g ∷ fs) gs h.1)
 
--- each stands before all behind it
+-- each stands before all after it
 abbrev Rise : {X : Type 0} → (X → ℕ × ℕ) → List X → Type 0
 Rise place [] = Unit {0}
 Rise {X} place (x ∷ xs) = ((y : X) → Among xs y → IsPlacedBefore (place x) (place y)) × Rise place xs
@@ -116,7 +116,7 @@ removed_here x contents others chosen rest is parted row = record {
   stays = λ y i. let P : List TableContent → Type 0 = λ ts. InTables ts y in subst P is i;
 }
 
--- behind a table that is taken out later
+-- after a table that is taken out later
 removed_chosen : (x c : TableContent) (contents others chosen rest : List TableContent) → chosen ≡ x ∷ others → InRow (x ∷ contents) → x.placed.table.number ≢ c.placed.table.number → Removed contents others rest c → Removed (x ∷ contents) chosen rest c
 removed_chosen x c contents others chosen rest is row apart r = record {
   left = x ∷ r.left;
@@ -140,7 +140,7 @@ removed_chosen x c contents others chosen rest is row apart r = record {
       ];
 }
 
--- behind a table that stays
+-- after a table that stays
 removed_rest : (x c : TableContent) (contents others chosen rest : List TableContent) → rest ≡ x ∷ others → InRow (x ∷ contents) → x.placed.table.number ≢ c.placed.table.number → Removed contents chosen others c → Removed (x ∷ contents) chosen rest c
 removed_rest x c contents others chosen rest is row apart r = record {
   left = x ∷ r.left;
@@ -242,7 +242,7 @@ row_with o (c ∷ contents) fresh row = by (row_with o contents (λ x i. fresh x
           rest,
         )
 
--- behind all that are done there is a place for one more
+-- after all that are done there is a place for one more
 abbrev HasPlace : TableContent → List TableContent → Type 0
 HasPlace o contents =
     (done rest : List TableContent) → AreParted contents done rest → ((x : TableContent) → InTables done x → IsPlacedBefore (place x.placed) (place o.placed)) → AreParted (with_content o contents) (done ++ o ∷ []) rest

@@ -50,7 +50,7 @@ module _ (number : ℕ) (numbered : IsNumbered number) where
       begins order law number numbered (with_files old whole) (with_files new behind) after r is (λ f. may_too old.files new.files whole behind d c (may f))
       (λ f. on_ok r (made_too old.files new.files whole behind d c) (made f))
 
-  -- ---- a stop in the middle
+  -- ---- a process crash in the middle
 
   pub stopped_each : (order : Order) → BeginLogLaw → (old : Facts) (name : List ℕ) → name ≡ name_of (Log number) → (new : Facts) → LeavesOnly old new (λ files. (files ≡ old.files) ⊎ (files ≡ insert old.files name []))
       → LeavesOnly old new (λ files. OfEach (λ whole behind. MayHaveLog order whole number behind) old.files files)

@@ -1,4 +1,4 @@
--- What a stop leaves in the middle of a removal of files that aren't live.
+-- What a process crash leaves in the middle of a removal of obsolete files.
 use Rattle.std.proofs.Common.{◌≡◌, ◌⊎◌, List, ℕ, None, inl, inr, refl, sym, ap, subst, ◌∙◌}
 use Rattle.std.specs.FinMap.{get}
 use Rattle.store.specs.Files.{Files, Facts, Removes as StoreRemoves, Removal as Removal_of}

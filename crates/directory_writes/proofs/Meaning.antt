@@ -1,4 +1,4 @@
--- What the removal of files that aren't live leaves of the meaning.
+-- What the removal of obsolete files leaves of the meaning.
 use Rattle.std.proofs.Common.{◌≡◌, ◌⊎◌, ℕ, Bool, true, false, List, Some, None, is_some, Result, IsTrue, inl, inr, refl, sym, ap, subst, ◌∙◌, arith}
 use Rattle.std.specs.Option.{option_or}
 use Rattle.std.specs.FinMap.{get, contains_key}
@@ -30,7 +30,7 @@ use Rattle.directory_writes.specs.declared.removal.Removal.{Removal}
 use Rattle.directory_writes.proofs.Cleaning.{read_newer}
 use Rattle.directory_writes.proofs.Losing.{loses_as}
 
--- each file is as before, or isn't live and is gone
+-- each file is as before, or is obsolete and is gone
 abbrev pub StaysOrGoes : Files → Files → (FileName → Type 0) → Type 0
 StaysOrGoes old new live = (name : List ℕ) → (get new name ≡ get old name) ⊎ (IsDead live name × (get new name ≡ None))
 
@@ -128,7 +128,7 @@ pub keeps_meaning : (numbers : LiveNumbers) (in_use : ℕ → Type 0) (old new :
 keeps_meaning numbers in_use old new r removes law f order d h are =
     keeps_parts order numbers in_use old.files new.files (stays_or_goes old new (IsLiveAmong old.files numbers in_use) (removes.files f)) d h are law
 
--- ---- a stop in the middle
+-- ---- a process crash in the middle
 
 module _ (numbers : LiveNumbers) (in_use : ℕ → Type 0) (old mid : Facts) (calls : mid.calls ≡ old.calls) (same : mid.files ≡ old.files) where
   -- before anything is removed

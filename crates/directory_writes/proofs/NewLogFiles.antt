@@ -1,4 +1,4 @@
--- An empty log behind the others.
+-- An empty log after the others.
 use Rattle.std.proofs.Common.{◌≡◌, ◌⊎◌, ℕ, ◌+◌, ◌<◌, ◌≤◌, Bool, true, false, cond, List, [], ◌∷◌, Some, is_some, Result, Ok, Err, IsTrue, OnOk, OnErr, inl, inr, refl, sym, ap, subst, ◌∙◌, arith}
 use Rattle.std.specs.List.{AllByRecursion}
 use Rattle.std.specs.Cmp.Lexicographic.{slice_cmp, nat_list_cmp_total}
@@ -155,7 +155,7 @@ pub maybe_made : (old new : Facts) (number : ℕ) (e : DbError) → (e ≡ OutOf
 maybe_made old new number e (inl memory) made f = inl (made.memory f (ap (λ (x : DbError). Err x) memory)).0
 maybe_made old new number e (inr io) made f = made.io f (ap (λ (x : DbError). Err x) io)
 
--- ---- a stop in the middle
+-- ---- a process crash in the middle
 
 module _ (order : Order) (number : ℕ) (old : Facts) where
   pub log_unstopped : (new : Facts) → new ≡ old → LeavesOnly old new (MayHaveLog order old.files number)

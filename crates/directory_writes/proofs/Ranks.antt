@@ -65,7 +65,7 @@ sorted_entries order exact (one ∷ placed) h = (
 
 -- ---- the first and the last
 
--- an entry stands first, and all others behind it
+-- an entry stands first, and all others after it
 pub first_entry : (order : Order) (inserts : List Entry) (placed : List Placed) (node : ℕ) → ordered order.cmp inserts ≡ placed → AreSorted order (entries_in placed) → first_of placed ≡ Some node
     → (first : Entry) × Among (entries_in placed) first × (entry_at inserts node ≡ Some first) × ((other : Entry) → Among (entries_in placed) other → (other ≡ first) ⊎ ComesBefore order first other)
 first_entry order inserts [] node is h e = (let t : None ≡ Some node = e in absurd cc)
@@ -95,7 +95,7 @@ before_last order [] one h other (inr i) = absurd i
 before_last order (x ∷ front) one h other (inl e) = (let P : Entry → Type 0 = λ a. ComesBefore order a one.entry in inr (subst P (sym e) (h.0 one.entry (last_among front one))))
 before_last order (x ∷ front) one h other (inr i) = before_last order front one h.1 other i
 
--- an entry stands last, and all others in front of it
+-- an entry stands last, and all others before it
 pub last_entry : (order : Order) (inserts : List Entry) (placed : List Placed) (node : ℕ) → ordered order.cmp inserts ≡ placed → AreSorted order (entries_in placed) → last_of placed ≡ Some node
     → (last : Entry) × Among (entries_in placed) last × (entry_at inserts node ≡ Some last) × ((other : Entry) → Among (entries_in placed) other → (other ≡ last) ⊎ ComesBefore order other last)
 last_entry order inserts placed node is h e = by (last_split placed)

@@ -1,4 +1,4 @@
--- The removal of files that aren't live, in each directory that differs in tables alone.
+-- The removal of obsolete files, in each directory that differs in tables alone.
 use Rattle.std.proofs.Common.{◌≡◌, ℕ, List, Option, Some, None, is_some, true, false, Result, IsTrue, inl, inr, refl, sym, ap, subst, ◌∙◌}
 use Rattle.std.specs.FinMap.{get}
 use Rattle.ikey.specs.Orders.{Order}
@@ -28,7 +28,7 @@ module _ (numbers : LiveNumbers) (in_use : ℕ → Type 0) where
   both_too : (files whole : Files) → DiffersInTables files whole → (n : ℕ) → HasBoth files n → HasBoth whole n
   both_too files whole d n has = (d.names (name_of (Table n)) ∙ has.0, d.names (name_of (OldTable n)) ∙ has.1)
 
-  -- the same files are live
+  -- the same files are in use
   live_too : (files whole : Files) → DiffersInTables files whole → (file : FileName) → IsLiveAmong files numbers in_use file → IsLiveAmong whole numbers in_use file
   live_too files whole d Current alive = alive
   live_too files whole d Lock alive = alive
@@ -61,7 +61,7 @@ module _ (numbers : LiveNumbers) (in_use : ℕ → Type 0) where
         | inr dead ↦ inr dead
       ]) whole behind d c
 
-  -- ---- a stop in the middle
+  -- ---- a process crash in the middle
 
   abbrev pub StaysEach : Files → Files → Type 0
   StaysEach old files = OfEach (λ whole behind. StaysConsistent numbers in_use whole behind) old files

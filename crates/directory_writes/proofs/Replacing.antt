@@ -54,7 +54,7 @@ two_from (t ∷ ts) h = (
   two_from ts (λ i j d lt le. h (suc i) (suc j) d (omega (arith, lt)) (omega (arith, le))),
 )
 
--- ---- what is taken away
+-- ---- what is removed
 
 abbrev NotAt : ℕ → ℕ → PlacedTable → Type 0
 NotAt level number t = is_at level number t ≡ false

@@ -130,7 +130,7 @@ level0_too order files whole n entries table same h =
       short = short_too order files whole h.content here h.short;
     }
 
--- a table whose number was free is the same behind a change that was done to both
+-- a table whose number was free is the same after a change that was done to both
 pub free_table : (order : Order) (old new whole after : Files) (n : ℕ) → IsNumbered n → DiffersInTables old whole → IsSameChange old new whole after → IsFree order whole n → table_at after n ≡ table_at new n
 free_table order old new whole after n num d c free =
     let at = also old new whole after d c in

@@ -205,7 +205,7 @@ missing : (o : Option (List ℕ)) → (is_some o ≡ true → ⊥) → o ≡ Non
 missing None h = refl
 missing (Some x) h = absurd (h refl)
 
--- no file has a number that is free: so it is none in both
+-- no file has a number that is free, so none has it in both
 pub free_file : FreeFileLaw
 free_file order old whole n file d free is le =
     let gone : is_some (get whole (name_of file)) ≡ true → ⊥ = λ there. (let below : number_of file < n = free.listed file is there in omega (arith, below, le)) in

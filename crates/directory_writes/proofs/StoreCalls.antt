@@ -81,7 +81,7 @@ not_created old new name store_error.Device e files synced is there = record {
   ];
 }
 
--- ---- bytes behind a file
+-- ---- bytes after a file
 
 pub not_appended : (old new : Facts) (name bytes : List ℕ) (se : StoreError) (e : DbError)
     → Changes {T = Unit {0}} old new (Err se) (λ o n. Appends o n name bytes) (λ o n. AppendsBeginning o n name bytes) → KeepsSynced old new
@@ -151,7 +151,7 @@ created_unsynced old new name is = ap (λ (s : Synced). s name) is ∙ with_same
 
 -- ---- the calls since the last sync
 
--- behind a sync there are none
+-- after a sync there are none
 pub behind_added : (old new : Facts) (name : List ℕ) → Adds old new (Sync name) → behind_sync [] new.calls ≡ []
 behind_added old new name adds =
     ap (λ (calls : List Call). behind_sync [] calls) adds.0 ∙ behind_more [] old.calls (record { found = disk_of old; change = Sync name } ∷ [])

@@ -1,4 +1,4 @@
--- A removal names files alone that aren't live: at any moment the others are as they were.
+-- A removal names files alone that are obsolete: at any moment the others are as they were.
 use Rattle.std.proofs.Common.{◌≡◌, ◌⊎◌, inl, inr, ℕ, List, None, sym, ap, subst, ◌∙◌}
 use Rattle.std.specs.FinMap.{get}
 use Rattle.store.specs.Calls.{Adds, Idles}

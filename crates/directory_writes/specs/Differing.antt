@@ -26,6 +26,6 @@ pub record IsSameChange (old new whole after : Files) : Type 0 where
 abbrev pub OfEach : (Files → Files → Type 0) → Files → Files → Type 0
 OfEach leads old new = (whole after : Files) → DiffersInTables old whole → IsSameChange old new whole after → leads whole after
 
--- what is known of a store, with these files in place of its own, and no call noted
+-- what is known of a store, with these files instead of its own, and no call noted
 abbrev pub with_files : Facts → Files → Facts
 with_files facts files = record facts { files = files; calls = [] }

@@ -7,8 +7,8 @@ use Rattle.edits.specs.declared.names.FileName.{FileName}
 use Rattle.edits.specs.declared.names.FileName.TheVariants.{Current, Lock, Log, Table, OldTable, Manifest, Temporary}
 use Rattle.versions.specs.declared.live.LiveNumbers.{LiveNumbers}
 
--- `CURRENT`, the lock, the MANIFEST, the live logs, and the tables in use: where such a table has a
--- file under both names, that with the newer one, which is the one that is read.
+-- `CURRENT`, the lock, the MANIFEST, the logs in use, and the tables in use. If such a table has a
+-- file under both names, it is the one with the newer name, which is the one that is read.
 abbrev pub IsLiveFile : LiveNumbers → (ℕ → Type 0) → (ℕ → Type 0) → FileName → Type 0
 IsLiveFile numbers in_use has_both Current = Unit {0}
 IsLiveFile numbers in_use has_both Lock = Unit {0}
@@ -26,6 +26,6 @@ HasBoth files n = (contains_key files (name_of (Table n)) ≡ true) × (contains
 abbrev pub IsLiveAmong : Files → LiveNumbers → (ℕ → Type 0) → FileName → Type 0
 IsLiveAmong files numbers in_use file = IsLiveFile numbers in_use (HasBoth files) file
 
--- The name is of a known shape, and its file isn't live.
+-- The name is of a known shape, and its file is obsolete.
 abbrev pub IsDead : (FileName → Type 0) → List ℕ → Type 0
 IsDead live name = (file : FileName) × IsFileName file × (name ≡ name_of file) × (live file → ⊥)

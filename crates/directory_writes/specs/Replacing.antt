@@ -16,8 +16,8 @@ use Rattle.compact.specs.JobEdits.{IsPlanProper}
 abbrev pub placed_in : List TableContent → List PlacedTable
 placed_in contents = map (λ (content : TableContent). content.placed) contents
 
--- The inputs of the plan are gone, and tables of its output level are in their place: each table
--- was there and is no input, or is of that level. Each of another number than theirs stays.
+-- The inputs of the plan are gone, and tables of its output level replace them: each table was
+-- there and is no input, or is of that level. Each of another number than theirs stays.
 pub record ReplacesInputs (plan : JobPlan) (old new : List PlacedTable) : Type 0 where
   pub tables : (placed : PlacedTable) → Contains new placed → (Contains old placed × (Contains plan.inputs.items placed → ⊥)) ⊎ (placed.level ≡ plan.output_level)
   pub stays : (placed : PlacedTable) → Contains old placed → ((input : PlacedTable) → Contains plan.inputs.items input → input.table.number ≢ placed.table.number) → Contains new placed

@@ -152,7 +152,7 @@ stuck_from a rest b (f ∷ fs) (g ∷ gs) h k e some none =
     let s = free_field h.0 k.0 (h.1 ++ rest) k.1 f g h.2 k.2 (sym (ap (λ (x : List ℕ). x ++ rest) h.4 ∙ append_assoc h.0 h.1 rest) ∙ e ∙ k.4) in
     stuck_from h.1 rest k.1 fs gs h.3 k.3 s.1 some none
 
--- where no field stands behind those so far, the bytes are no edit
+-- where no field stands after those so far, the bytes are no edit
 pub stuck : (bytes front rest : List ℕ) (fs : List Field) → IsEdit front fs → bytes ≡ front ++ rest → 0 < length rest → BeginsNone IsField rest → NoEdit bytes
 stuck bytes front rest fs h e some none gs k = stuck_from front rest bytes fs gs h k (sym e) some none
 

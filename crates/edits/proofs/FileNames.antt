@@ -134,7 +134,7 @@ from_not_lt a b none =
       | inr le ↦ le
     ]
 
--- the value only grows behind the first digits
+-- the value only grows after the first digits
 pub value_past : (bs : List ℕ) (i v : ℕ) → i < length bs → digits_value 10 (take i bs) ≡ v → 2 ^ 64 ≤ v * 10 + digit_value (get_or bs i 0) → 2 ^ 64 ≤ digits_value 10 bs
 value_past bs i v lt e h =
     let more : digits_value 10 (take (i + 1) bs) ≡ digits_value 10 (take i bs) * 10 + digit_value (get_or bs i 0) = digits_value_more 10 bs i lt in
@@ -158,7 +158,7 @@ first-padded n some small long zero_in_front =
     let same : padded n ≡ decimal n = ap (λ (k : ℕ). replicate k 48 ++ decimal n) none in
     omega (arith, first_decimal n some small, ap (λ (t : List ℕ). get_or t 0 0) same, zero_in_front)
 
--- the zeros in front of a number
+-- the zeros before a number
 zero-value : (c : ℕ) (cs : List ℕ) → c ≡ 48 → digits_value 10 (c ∷ cs) ≡ digits_value 10 cs
 zero-value c cs e = rw e refl
 
@@ -216,7 +216,7 @@ ending-some ending (inr (inl e)) = rw e (omega arith, omega arith)
 ending-some ending (inr (inr (inl e))) = rw e (omega arith, omega arith)
 ending-some ending (inr (inr (inr e))) = rw e (omega arith, omega arith)
 
--- the number of a name and what stands behind it, where the digits in front end
+-- the number of a name and what stands after it, where the digits in front end
 pub split_name : (name ending : List ℕ) (n d : ℕ) → IsNumbered n → IsEnding ending → name ≡ padded n ++ ending
     → d ≤ length name → AllDigits 10 (take d name) → (d < length name → 10 ≤ digit_value (get_or name d 0)) → (take d name ≡ padded n) × (drop d name ≡ ending)
 split_name name ending n d h end e within digits stop =
@@ -234,7 +234,7 @@ letter-padded name ending n h e low high =
     let one = digit_from_value (get_or (padded n) 0 0) (digit_at (padded n) 0 (digits-padded n h.1) (omega (arith, long))) in
     omega (arith, one, at, low)
 
--- a MANIFEST's name, where no number stands behind its front
+-- a MANIFEST's name, where no number stands after its front
 pub no_manifest : (digits : List ℕ) → ((n : ℕ) → IsNumbered n → digits ≡ padded n → ⊥) → (file : FileName) → IsFileName file → codes "MANIFEST-" ++ digits ≡ name_of file → ⊥
 no_manifest digits none Current h e = cc
 no_manifest digits none Lock h e = cc
@@ -248,7 +248,7 @@ pub none_then : {X P Q : Type 0} (r : Option X) → IfNone r P → (P → Q) →
 none_then None h f = f h
 none_then (Some x) h f = tt
 
--- what stands behind a prefix
+-- what stands after a prefix
 pub behind_prefix : (name p digits : List ℕ) → bytes_eq (take (length p) name) p ≡ true → digits ≡ drop (length p) name → name ≡ p ++ digits
 behind_prefix name p digits e d =
     sym (take-append-drop (length p) name) ∙ ap (λ (t : List ℕ). t ++ drop (length p) name) ((bytes_eq-Decides (take (length p) name) p).0 e) ∙ ap (λ (t : List ℕ). p ++ t) (sym d)

@@ -12,7 +12,7 @@ use Rattle.edits.specs.Layout.{levels, NamesOther, names_none, fields_of, last_s
 pub drop_item : {X : Type 0} (xs : List X) (i : ℕ) (x : X) → i < length xs → x ≡ get_or xs i x → drop i xs ≡ x ∷ drop (i + 1) xs
 drop_item xs i x lt e = drop_more xs i x lt ∙ ap (λ y. y ∷ drop (i + 1) xs) (sym e)
 
--- a fact of the list from the element on, by one of the element and what is behind it
+-- a fact of the list from the element on, by one of the element and what is after it
 pub at_item : {X : Type 0} (F : List X → Type 0) (xs : List X) (i : ℕ) (x : X) → i < length xs → x ≡ get_or xs i x → F (x ∷ drop (i + 1) xs) → F (drop i xs)
 at_item F xs i x lt e h = subst F (sym (drop_item xs i x lt e)) h
 

@@ -96,7 +96,7 @@ all_inserted P new [] h k = (h, tt)
 all_inserted P new (t ∷ ts) h k =
     cond_both (is_before new t) (new ∷ t ∷ ts) (t ∷ inserted new ts) (AllByRecursion P) (λ _. (h, k)) (λ _. (k.0, all_inserted P new ts h k.1))
 
--- what is behind t is behind what stands before t
+-- what is after t is after what stands before t
 behind_all : (new t : PlacedTable) (ts : List PlacedTable) → IsPlacedBefore (new.level, new.table.number) (t.level, t.table.number) → AllByRecursion (IsFollowedBy t) ts
     → AllByRecursion (λ x. new.table.number ≢ x.table.number) ts → AllByRecursion (IsFollowedBy new) ts
 behind_all new t [] b h k = tt

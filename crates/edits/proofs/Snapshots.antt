@@ -28,7 +28,7 @@ tables_all P f (t ∷ ts) = (f t, tables_all P f ts)
 pub previous_all : (P : Field → Type 0) → ((n : ℕ) → P (PreviousLogNumber n)) → (n : ℕ) → AllByRecursion P (previous_fields n)
 previous_all P f n = cond_both (n == 0) [] (PreviousLogNumber n ∷ []) (AllByRecursion P) (λ _. tt) (λ _. (f n, tt))
 
--- what stands behind the four numbers
+-- what stands after the four numbers
 abbrev pub body : List (Option (List ℕ)) → List PlacedTable → ℕ → List Field
 body ps ts n = pointer_fields 0 ps ++ map NewFile ts ++ previous_fields n
 
@@ -70,7 +70,7 @@ snapshot_proper name layout short last log next previous kept =
 
 -- ---- in order
 
--- each field comes before all behind it
+-- each field comes before all after it
 abbrev pub Rises : List Field → Type 0
 Rises [] = Unit {0}
 Rises (f ∷ fs) = AllByRecursion (IsWrittenBefore f) fs × Rises fs

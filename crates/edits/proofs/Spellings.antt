@@ -1,4 +1,4 @@
--- The parts of an edit, one behind the other.
+-- The parts of an edit, one after the other.
 use Rattle.std.proofs.Common.{◌≡◌, ℕ, ◌^◌, ◌<◌, ◌≤◌, List, ◌++◌, length, take, drop, refl, sym, subst, ◌∙◌}
 use Rattle.std.proofs.lemmas.List.{take-append-drop, take_at}
 use Rattle.coding.specs.Varint.{IsVarint, IsString, AppendsVarint}

@@ -49,7 +49,7 @@ field_tag (DeletedFile level number) = 6
 field_tag (NewFile placed) = 7
 field_tag (PreviousLogNumber n) = 9
 
--- what stands behind the tag
+-- what stands after the tag
 abbrev pub IsContent : List ℕ → Field → Type 0
 IsContent bytes (Comparator name) = IsString bytes name
 IsContent bytes (LogNumber n) = IsLong bytes n
@@ -65,7 +65,7 @@ abbrev pub IsField : List ℕ → Field → Type 0
 IsField [] field = ⊥
 IsField (tag ∷ bytes) field = (tag ≡ field_tag field) × IsContent bytes field
 
--- the bytes are these fields, one after the other, and nothing behind them
+-- the bytes are these fields, one after the other, and nothing after them
 abbrev pub IsEdit : List ℕ → List Field → Type 0
 IsEdit bytes [] = bytes ≡ []
 IsEdit bytes (field ∷ fields) = (first rest : List ℕ) × IsField first field × IsEdit rest fields × (bytes ≡ first ++ rest)

@@ -22,7 +22,7 @@ IsPlacedProper placed = (placed.level < 7) × IsTableProper placed.table
 abbrev pub IsFollowedBy : PlacedTable → PlacedTable → Type 0
 IsFollowedBy a b = IsPlacedBefore (a.level, a.table.number) (b.level, b.table.number) × (a.table.number ≢ b.table.number)
 
--- so does each table with all behind it
+-- the same of each table and all after it
 abbrev pub AreInPlace : List PlacedTable → Type 0
 AreInPlace [] = Unit {0}
 AreInPlace (placed ∷ tables) = AllByRecursion (IsFollowedBy placed) tables × AreInPlace tables

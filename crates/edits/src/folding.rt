@@ -30,11 +30,9 @@ struct Numbers {
 /// Returns the layout that the edits of a MANIFEST leave, if keys are in the order of this name
 /// (LevelDB's db/version_set.cc, `VersionSet::Recover` and `VersionSet::Builder`). Of each number
 /// and compact pointer the last one counts. Within an edit deleted files go before new ones.
-///
-/// Unsupported: an edit names another order, whichever edit it is, or none names an order and this
-/// isn't `leveldb.BytewiseComparator`. Corrupt: the log number, the next file number or the last
-/// sequence number is in no edit. Corrupt too: an edit deletes a file that isn't at that level, or
-/// adds one whose number is there.
+/// Unsupported: an edit names another order, or none does and this isn't
+/// `leveldb.BytewiseComparator`. Corrupt: no edit has the log number, the next file number or the
+/// last sequence number; a deleted file isn't at that level, or a new one's number is there.
 pub fn fold_edits(alloc: Global, comparator: &[u8], edits: &[Edit]) -> Result<Layout, ReadError>
     ensures found { IfOk result (λ layout. IsLayout comparator.now edits.now layout) }
     // Edits that are refused leave no layout, or are of another order.

@@ -15,13 +15,10 @@ use coding::{Damage, Feature, ReadError};
 use std::alloc::Global;
 
 /// Reads the edit that a record of a MANIFEST is (LevelDB's doc/impl.md, "Manifest", and its
-/// db/version_edit.cc, `VersionEdit::DecodeFrom`). It is all of the bytes, with fields in any
-/// order, a tag once or more often. No bytes are an edit without fields.
-///
-/// Corrupt: a field is cut or has an unknown tag, or a number is longer than it has to be or too
-/// large. Corrupt too: a last sequence number of 2^56 or more, a level above 6, a new file numbered
-/// 0, or a key that is no internal key. Unsupported: a new or deleted file is numbered 2^62 or
-/// above in what otherwise is an edit.
+/// db/version_edit.cc, `VersionEdit::DecodeFrom`): all of the bytes, with fields in any order and
+/// tags repeated. No bytes are an edit without fields. Corrupt: a field is cut or has an unknown
+/// tag, a number isn't in its shortest form or in its range, a new file is numbered 0, or a key is
+/// no internal key. Unsupported: a file is numbered 2^62 or above in what otherwise is an edit.
 pub fn decode_edit(alloc: Global, bytes: &[u8]) -> Result<Edit, ReadError>
     // The bytes are the encoding of what is read, and its tables have numbers below 2 ^ 62.
     ensures found { IfOk result (λ edit. IsEdit bytes.now edit × AllByRecursion IsWithinLimit edit) }

@@ -27,7 +27,7 @@ as_many : (first : ℕ) (operations : List Operation) → length (entries_of fir
 as_many first [] = refl
 as_many first (operation ∷ operations) = ap suc (as_many (first + 1) operations)
 
--- ---- behind others
+-- ---- after others
 
 accounted_behind : (entries : List Entry) (count weight first : ℕ) (operations : List Operation) → AreAccounted entries count weight
     → AreAccounted (entries ++ entries_of first operations) (count + length operations) (weight + sum_by operation_weight operations)
@@ -40,7 +40,7 @@ accounted_behind entries count weight first operations h =
       weight = (let light = h.weight in omega (arith, sum_by-append entry_weight h.all more, all_weigh first operations, light));
     }
 
--- a batch behind those of the logs
+-- a batch after those of the logs
 pub accounted_written : (tables inserts : List Entry) (count weight first : ℕ) (operations : List Operation) → AreAccounted (tables ++ inserts) count weight
     → AreAccounted (tables ++ (inserts ++ entries_of first operations)) (count + length operations) (weight + sum_by operation_weight operations)
 accounted_written tables inserts count weight first operations h =

@@ -49,7 +49,7 @@ as_unwritten old new all stood = omega (arith, all, stood)
 pub as_written : (old new : Facts) → FailsAsWrite old new → old.failures < new.failures → old.write_failures < new.write_failures
 as_written old new all rose = omega (arith, all, rose)
 
--- the same behind calls that didn't fail
+-- the same after calls that didn't fail
 pub some_behind : (old mid new : Facts) → FailsNoWrite old mid → mid.failures ≡ old.failures → FailsSome mid new → FailsSome old new
 some_behind old mid new none stood some = (omega (arith, none, some.0), omega (arith, none, stood, some.1))
 
@@ -86,7 +86,7 @@ broken_now old new b broken rose io = record { broken = λ _. (rose, io); whole 
 pub serves_breaks : {P K : Type 0} {g : _} (old new : Facts) (before after : OpenDb K g) → ServesOn old new before after → BreaksExactly old new after.broken P
 serves_breaks old new before after h = unbroken old new after.broken h.whole h.unwritten
 
--- one behind others in which no write failed
+-- one after others in which no write failed
 pub breaks_then : {P Q : Type 0} (old mid new : Facts) (b : Bool) → FailsNoWrite old mid → (P → Q) → BreaksExactly mid new b P → BreaksExactly old new b Q
 breaks_then old mid new b none so h = record {
   broken = λ is. let both = h.broken is in ((let more = both.0 in omega (arith, none, more)), so both.1);
@@ -113,7 +113,7 @@ inner e x is = cc
 pub handed_on : {T U : Type 0} (e : DbError) (r : Result U DbError) → r ≡ Err e → IsIo {T = T} (Err e) → IsIo r
 handed_on {T} e r is io = is ∙ ap (λ (x : DbError). Err x) (inner {T = T} e error.Io io)
 
--- so it is where a file couldn't be removed either
+-- the same holds if a file couldn't be removed either
 pub refused_io : {T U : Type 0} (complete : Bool) (e r : DbError) → r ≡ refused_as complete e → IsIo {T = T} (Err e) → IsIo {T = U} (Err r)
 refused_io {T} complete e r is io = ap (λ (x : DbError). Err x) (is ∙ ap (refused_as complete) (inner {T = T} e error.Io io))
 

@@ -63,7 +63,7 @@ use Rattle.engine.proofs.Reading.{has_placed, read_by}
 abbrev pub DropsKept : (List ℕ → List ℕ → Ordering) → Type 0
 DropsKept cmp = (cursor : MemoriesPlace) (old new : Memories) → new ≡ record old { older = new.older } → older_at new.older cursor.generation ≡ older_at old.older cursor.generation → KeepsMemories cmp cursor old new
 
--- all but files that aren't live went on under their names
+-- all but obsolete files went on under their names
 abbrev pub LosesUnused : {K : Type 0} {g : _} → Facts → Facts → OpenDb K g → Type 0
 LosesUnused old facts db = CarriesBut old facts (IsDead (IsLiveAmong old.files (numbers_of db.directory) (λ number. IsTableUsed db.tables db.job db.iterators number)))
 

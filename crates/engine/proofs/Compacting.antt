@@ -153,7 +153,7 @@ either : {X : Type 0} (b : Bool) (x : Option X) (y : Option X) (z : X) → cond 
 either true x y z is = inl is
 either false x y z is = inr is
 
--- one was put under an id, or taken away
+-- one was put under an id, or removed
 pub known_updated : (snapshots kept : BTreeMap ℕ ℕ) (last id : ℕ) (put : Option ℕ) → ((sequence : ℕ) → put ≡ Some sequence → last ≤ sequence) → ((q : ℕ) → kept_at kept q ≡ cond (is_eq (nat_cmp id q)) put (kept_at snapshots q)) → AreKnown snapshots last kept
 known_updated snapshots kept last id put above updates q sequence is = elim (either (is_eq (nat_cmp id q)) put (kept_at snapshots q) sequence (sym (updates q) ∙ is)) [
   | inl new ↦ inr (above sequence new)
@@ -319,7 +319,7 @@ module _ {K : Type 0} {g : _} (order : Order) (old new : Whole) (next more : ℕ
           intact = intact_still leaves;
         }
 
-    -- so it is where the directory has the same tables
+    -- the same holds if the directory has the same tables
     pub goes_beside_read : next ≤ more → KeepsJobTables → (IsSound order.cmp old.seen → IsSound order.cmp new.seen) → ((number : ℕ) → KeepsOf new.seen number → KeepsOf old.seen number ⊎ ((number < next) × (IsOwn work.job.outputs number → ⊥)))
         → IsSameChange old.seen.facts.files new.seen.facts.files ideal after → e.tables ≡ d.tables → e.layout.tables.items ≡ d.layout.tables.items → e.manifest ≡ d.manifest → old.memory.last ≤ new.memory.last → AreKnown snapshots old.memory.last kept → HaveKnown iterators tables open_ones
         → ((number : ℕ) → ListsNumber tables number → IsOwn work.job.outputs number → ⊥) → IsCompacting order damaged new after more kept open_ones e work

@@ -1,4 +1,4 @@
--- That the files of a database without work are exactly those that are live.
+-- That the files of a database without work are exactly those in use.
 use Rattle.std.proofs.Common.{◌≡◌, ◌⊎◌, ◌++◌, ◌≤◌, ℕ, true, false, List, [], ◌∷◌, Contains, Option, Some, None, Result, Ok, IsSome, IsTrue, inl, inr, refl, sym, ap, subst, ◌∙◌, arith}
 use Rattle.std.specs.Bool.{nat_eq}
 use Rattle.std.specs.FinMap.{contains_key, get}
@@ -72,7 +72,7 @@ module _ {K : Type 0} {g : _} (order : Order) (source : Seen) (db : OpenDb K g) 
   abbrev parts : Directory
   parts = serving.log.directory.directory
 
-  -- the only log that is live
+  -- the only log in use
   live_log : db.memory.sealed ≡ None → (n : ℕ) → IsNumbered n → contains_key source.facts.files (name_of (Log n)) ≡ true → (db.directory.first_log ≤ n) ⊎ (n ≡ db.directory.previous_log) → n ≡ db.log.number
   live_log none n numbered there live =
       let knows = serving.log.knows in

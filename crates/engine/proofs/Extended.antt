@@ -1,4 +1,4 @@
--- What a batch behind the last log leaves of what a database knows of its directory.
+-- What a batch after the last log leaves of what a database knows of its directory.
 use Rattle.std.proofs.Common.{◌≡◌, ◌<◌, ℕ, Bool, false, List, [], ◌∷◌, ◌++◌, Contains, length, inl, inr, refl, sym, ap, subst, ◌∙◌, arith}
 use Rattle.std.proofs.lemmas.List.{length-append}
 use Rattle.std.specs.FinMap.{get}
@@ -39,7 +39,7 @@ one_end (a ∷ xs) (b ∷ ys) x y e =
     let ends = one_end xs ys x y rest in
     ((λ i. first i ∷ ends.0 i), ends.1)
 
--- The entries come behind those of the last log and of the current memtable.
+-- The entries come after those of the last log and of the current memtable.
 pub logs_extended : (d e : Directory) (log : ℕ) (old new : Memories) (more : List Entry) → IsExtended d e more → HasMoreEntries old new more → HasLogs d log old → HasLogs e log new
 logs_extended d e log old new more x written h =
     let same = one_end h.sealed x.before h.current x.last (sym h.logs ∙ x.old) in

@@ -87,7 +87,7 @@ outcome_done may old new before after done whole h = record {
   broken = inl (h.whole ∙ sym whole);
 }
 
--- one behind steps that were done
+-- one after steps that were done
 pub outcome_then : {T K : Type 0} {g : _} (may : DbError → Type 0) (old mid new : Facts) (before between after : OpenDb K g) (result : Result T DbError) → before.broken ≡ false → ServesOn old mid before between → CompactOutcome may mid new between after result
     → CompactOutcome may old new before after result
 outcome_then may old mid new before between after result whole first h = record {
@@ -322,7 +322,7 @@ module _ {K : Type 0} {g : _} (order : Order) (old mid new : Seen) (before betwe
             stops = keeps_then order old mid new before between (λ m. steps) (tt {0}) t.step (step no_ids).faithful t.stops stops;
           }
 
-  -- all came, and the outputs are in the place of the inputs
+  -- all came, and the outputs replace the inputs
   pub taken_done : GoesOn 1 between after → after.job ≡ None → MatchOption before.job (Unit {0}) (λ work. ReplacesInputs work.job.plan before.tables after.tables)
   taken_done goes none =
       let same = job_in goes.work t.more (sym goes.was ∙ t.now) in
@@ -389,6 +389,6 @@ taken_all order total old new before after steps t all ids = record {
       (one.0, record { failures = wide.failures; denials = wide.denials; what = wide.what }, one.2);
 }
 
--- out of memory behind all of them
+-- out of memory after all of them
 pub outcome_all : {K : Type 0} {g : _} (old new : Facts) (before after : OpenDb K g) → before.broken ≡ false → ServesOn old new before after → CompactOutcome {T = Unit {0}} MayRefusePiece old new before after (Err error.OutOfMemory)
 outcome_all old new before after whole serves = outcome_then MayRefusePiece old new new before after after (Err error.OutOfMemory) whole serves (outcome_full new after)

@@ -219,7 +219,7 @@ module _ {K : Type 0} {g : _} (order : Order) (kept : (scan : Scan K g) → Scan
         serving_unflushed order kept one lasts law flushes old facts before m serving plan numbers.next (stays_below m serving f) (names_below m serving f) (sound_still m serving f) left.1.can.free upto.1 drawn.directory entries left.1 refl refl refl refl refl refl upto.0 (unflushed_synced f carries m serving (spares f)) (logs_left f m serving) (named_still m serving f (carries f)),
       ))
 
-  -- the device failed
+  -- the store failed
   failed : {T : Type 0} → old.facts.failures < facts.failures
       → (IsTrue facts.faithful → (m : Machine) (serving : IsServing order old before m) → MayBeFlushed order serving.ideal (behind m serving) next numbers.next entries serving.log.directory.directory serving.log.logs.sealed serving.log.logs.current)
       → LeadsOpen order old new ids before (open_db memory (record drawn { broken = true })) (λ m n. IsPiece {T = T} m 1 (Err error.Io) n)
@@ -386,7 +386,7 @@ module _ {K : Type 0} {g : _} (order : Order) (kept : (scan : Scan K g) → Scan
       serves_on order source source ids (open_db memory state) (open_db let_go state) 1 (Ok (tt {0})) whole whole (λ f. f) (omega arith) refl
       (λ m f same serving. (draws m 1 source.facts, serving_let_go m serving))
 
--- ---- behind a removal
+-- ---- after a removal
 
 pub flushes_behind : {K : Type 0} {g : _} (order : Order) (old mid new : Seen) (before : OpenDb K g) (memory : Memories) (after : OpenDb K g) (result : Result Progress DbError) {P : Machine → Machine → Type 0}
     → ((ids : Ids) → LeadsOpen order old mid ids before (record before { memory = memory }) P) → KeepsFlag P → (IsTrue new.facts.faithful → IsTrue mid.facts.faithful) → IsSameMemory before.memory memory → FlushesSealed order mid new (record before { memory = memory }) after result

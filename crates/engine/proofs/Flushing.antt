@@ -98,7 +98,7 @@ module _ {K : Type 0} {g : _} (order : Order) (kept : (scan : Scan K g) → Scan
   behind_is : IsSameChange old.facts.files facts.files serving.ideal behind
   behind_is = (same_change old.facts.files facts.files serving.ideal serving.origin.differs).1
 
-  -- the machine behind it
+  -- the machine after it
   abbrev pub drawn_by : Machine
   drawn_by = record m { numbers = m.numbers + 1; failures = facts.failures; denials = facts.denials }
 

@@ -53,7 +53,7 @@ synced_none facts = record { faithful = λ f. f; failures = omega arith; writes 
 pub fails_both : (old mid new : Facts) → FailsAsWrite old mid → FailsAsWrite mid new → FailsAsWrite old new
 fails_both old mid new a b = omega (arith, a, b)
 
--- one more, where the device keeps it
+-- one more, where the disk keeps it
 synced_more : (names : List (List ℕ)) (name : List ℕ) (old mid new : Facts) → SyncsThese names old mid → (IsTrue new.faithful → IsTrue mid.faithful) → mid.failures ≤ new.failures → FailsAsWrite mid new → new.denials ≡ mid.denials → new.locked ≡ mid.locked
     → (IsTrue new.faithful → new.files ≡ mid.files) → (IsTrue new.faithful → (q : List ℕ) → q ≢ name → new.synced q ≡ mid.synced q) → (IsTrue new.faithful → (q : List ℕ) → LeavesOrSyncs old mid q → LeavesOrSyncs old new q) → SyncsThese (names ++ name ∷ []) old new
 synced_more names name old mid new h back rise writes undenied held same others keeps = record {
@@ -123,7 +123,7 @@ sync_carries old mid new name r noted left same synced h = carries_both old mid 
 
 -- ---- one file after the other
 
--- one more behind them
+-- one more after them
 each_more : (names : List (List ℕ)) (name : List ℕ) (old mid new : Facts) → Adds mid new (Sync name) → new.synced ≡ with_synced mid.synced name (get mid.files name) → SyncsEach names old mid → SyncsEach (names ++ name ∷ []) old new
 each_more [] name old mid new adds synced idle = (
   new,
@@ -133,7 +133,7 @@ each_more [] name old mid new adds synced idle = (
 )
 each_more (first ∷ names) name old mid new adds synced h = (h.0, h.1, h.2, each_more names name h.0 mid new adds synced h.3)
 
--- calls behind them that changed nothing
+-- calls after them that changed nothing
 each_idle : (names : List (List ℕ)) (old mid new : Facts) → Idles mid new → SyncsEach names old mid → SyncsEach names old new
 each_idle [] old mid new idle h = (idle.0 ∙ h.0, idle.1 ∙ h.1)
 each_idle (first ∷ names) old mid new idle h = (h.0, h.1, h.2, each_idle names h.0 mid new idle h.3)
@@ -215,7 +215,7 @@ all_so_far all names old new is h = record {
   refused = tt;
 }
 
--- ---- an append behind them
+-- ---- an append after them
 
 pub appends_behind : (old mid new : Facts) (names : List (List ℕ)) (name bytes : List ℕ) (result : Result (Unit {0}) LogError) → SyncsThese names old mid → AppendsRecord mid new name bytes result → AppendsRecord old new name bytes result
 appends_behind old mid new names name bytes result h a = record {
@@ -270,7 +270,7 @@ syncs_behind sync old mid new names name bytes result h a s = record {
   locked = s.locked ∙ h.these.locked;
 }
 
--- want of memory leaves what was synced of each, or all of it is synced
+-- out of memory, a call leaves what was synced of each, or all of it is synced
 pub memory_keeps : (sync : Bool) (old mid new : Facts) (names : List (List ℕ)) (name bytes : List ℕ) (result : Result (Unit {0}) LogError) → SyncsThese names old mid → AppendsRecord mid new name bytes result
     → SyncsLog (Unit {0}) (sync ≡ true) sync name [] mid new result → IsTrue new.faithful → result ≡ Err Memory → (q : List ℕ) → LeavesOrSyncs old new q
 memory_keeps sync old mid new names name bytes (Ok x) h a s f is q = absurd (cc)
@@ -279,7 +279,7 @@ memory_keeps sync old mid new names name bytes (Err e) h a s f is q = same_keeps
 abbrev SameResult : {T : Type 0} → Result T LogError → Result T LogError → Type 0
 SameResult a b = a ≡ b
 
--- so it is told of what it answers in turn
+-- the same is told of what it answers in turn
 pub memory_told : {K : Type 0} (e : LogError) → (SameResult {T = Unit {0}} (Err e) (Err Memory) → K) → SameResult {T = ℕ} (Err e) (Err Memory) → K
 memory_told e h is = h (let same : e ≡ Memory = cc in ap (λ (x : LogError). Err x) same)
 
@@ -316,7 +316,7 @@ pub stood_behind : (old mid new : Facts) (result : Result (Unit {0}) LogError) �
 stood_behind old mid new (Ok x) first second = second ∙ first
 stood_behind old mid new (Err e) first second = tt
 
--- the call that was accepted last
+-- the call that succeeded last
 pub ends_so : (mid new : Facts) (name : List ℕ) (r : Result (Unit {0}) StoreError) → is_err r ≡ false → OnOk r (Adds mid new (Sync name)) → EndsInSync new
 ends_so mid new name r went noted = (let adds = done_of r went noted in (mid.calls, record { found = disk_of mid; change = Sync name }, adds.0, refl))
 
@@ -331,7 +331,7 @@ unput_behind names done old new puts each = record { done = done; mid = new; syn
 pub puts_so : (names : List (List ℕ)) (old new : Facts) (puts says : Facts → Type 0) → ((mid : Facts) → puts mid → says mid) → SyncsThenPuts names old new puts → SyncsThenPuts names old new says
 puts_so names old new puts says so h = record { done = h.done; mid = h.mid; synced = h.synced; ends = elim h.ends [ inl idle ↦ inl idle | inr put ↦ inr (put.0, so h.mid put.1) ] }
 
--- what a stop leaves
+-- what a process crash leaves
 pub left_behind : (old mid new : Facts) (name bytes : List ℕ) → mid.files ≡ old.files → LeavesOnly old mid (λ files. files ≡ old.files) → LeavesOnly mid new (λ files. AppendsBeginning mid.files files name bytes)
     → LeavesOnly old new (λ files. AppendsBeginning old.files files name bytes)
 left_behind old mid new name bytes same first second = leaves_both old mid new (λ files. AppendsBeginning old.files files name bytes)

@@ -1,4 +1,4 @@
--- Steps of the machine behind the moves of an iterator.
+-- Steps of the machine after the moves of an iterator.
 use Rattle.std.proofs.Common.{◌≡◌, ◌⊎◌, inl, inr, ℕ, ◌<◌, ◌≤◌, Bool, true, false, cond, IsTrue, List, [], Option, Some, None, IsSome, is_some, MatchOption, MatchResult, Ok, Err, IfErr, Result, refl, sym, ap, subst, ◌∙◌, arith}
 use Rattle.std.specs.Bool.{nat_eq}
 use Rattle.std.specs.BTreeMap.{BTreeMap}
@@ -133,7 +133,7 @@ module _ {K : Type 0} {g : _} (order : Order) (kept : (scan : Scan K g) → Scan
   abbrev after : Whole
   after = record { seen = new; memory = memory }
 
-  -- the database behind the move, but for its iterators
+  -- the database after the move, but for its iterators
   abbrev read_db : OpenDb K g
   read_db = record db { memory = memory }
 

@@ -1,5 +1,5 @@
--- What files hold goes on where they change in what isn't read, where an empty log is put behind
--- the others, and where an open has replaced `CURRENT`.
+-- What files hold goes on where they change in what isn't read, where an empty log is put after the
+-- others, and where an open has replaced `CURRENT`.
 use Rattle.std.proofs.Common.{◌≡◌, ◌≢◌, ◌⊎◌, ◌<◌, ◌≤◌, ◌+◌, ◌++◌, ◌∷◌, ℕ, true, List, [], Option, Some, None, cond, is_some, take, inl, inr, refl, sym, ap, subst, ◌∙◌, append_assoc, arith}
 use Rattle.std.specs.Cmp.Lexicographic.{nat_list_cmp_total}
 use Rattle.std.specs.FinMap.{get, insert, remove, contains_key, get-remove}
@@ -269,7 +269,7 @@ module _ (order : Order) (old : Files) (found : Found) (rewrite : Rewrite) (usab
     ]
   ]
 
-  -- the new log is live there
+  -- the new log is in use there
   pub live_renewed : (files : Files) (d : Directory) → IsConsistent order files d → get files (name_of Current) ≡ Some rewrite.current.items → get files (name_of (Manifest k)) ≡ Some rewrite.manifest.items → IsLive d.layout (k + 1)
   live_renewed files d good set there =
       let same = same_manifest order files d.manifest k d.edits (w.edit ∷ []) d.layout w.layout good.manifest (manifest_in files set there) in
@@ -394,7 +394,7 @@ module _ (order : Order) (old : Files) (found : Found) (rewrite : Rewrite) (usab
             ap (λ (es : List Entry). tabled c.tables ++ es) read.2,
           )
 
-    -- The new directory holds what was held in front of it.
+    -- The new directory holds what was held before it.
     pub holds_renewed : (m : Machine) → HoldsFirst order old m → HoldsFirst order before m → HoldsFirst order after m
     holds_renewed m whole h = elim whole.holds.directory [
       | inl none ↦ holds_in order m before after
@@ -418,7 +418,7 @@ spared_one since then before lost name stays (inr (inl none)) (inr whole) = inr 
 spared_one since then before lost name (inl none) (inr (inr was)) (inr whole) = inr (λ bytes there. inl (was ∙ none))
 spared_one since then before lost name (inr on) (inr (inr was)) (inr whole) = inr (λ bytes there. inr (was ∙ on.0 ∙ there))
 
--- A loss that spares what was there since then leaves files in front of which it was spared, too.
+-- A loss that spares what was there since then leaves files before which it was spared, too.
 pub spares_before : (since then : Facts) (bound : ℕ) (before lost : Files) → StayBelow since then bound
     → ((n : ℕ) → IsNumbered n → n < bound → IsAsLeft then before lost (name_of (Table n)) × IsAsLeft then before lost (name_of (OldTable n)) × IsAsLeft then before lost (name_of (Log n)))
     → SparesBelow since bound lost → SparesBelow since bound before

@@ -1,5 +1,5 @@
 -- Steps of a machine that doesn't serve, since none is open or it is broken: refused for that, or a
--- close. And what is so behind steps of one that serves.
+-- close. And what is so after steps of one that serves.
 use Rattle.std.proofs.Common.{◌≡◌, ◌⊎◌, ◌+◌, ◌++◌, ◌∷◌, Bool, true, false, List, [], length, Option, Some, None, IsSome, MatchOption, inl, inr, refl, sym, ap, ◌∙◌, if◌then◌else◌}
 use Rattle.std.specs.Option.{option_or}
 use Rattle.batch.specs.Batch.{first_refusal}
@@ -145,7 +145,7 @@ written_refused m n operations error.OutOfMemory h = inl h.1
 written_refused m n operations error.Io h = inr h.2
 written_refused m n operations _ h = absurd h
 
--- Behind a write nothing has changed, or its batch is accepted, or in doubt.
+-- After a write nothing has changed, or its batch is accepted, or in doubt.
 pub written_to : (m n : Machine) (operations : List Operation) (sync : Bool) (a : Answer) → Writes m operations sync a n → (n ≈ m) ⊎ (n ≈ accepted m operations sync) ⊎ (n ≈ doubted m operations)
 written_to m n operations sync a h = at (write_cause (status_of m) operations) a h
   where
@@ -166,7 +166,7 @@ accepted_broken : (m : Machine) (operations : List Operation) (sync : Bool) → 
 accepted_broken m [] sync = refl
 accepted_broken m (operation ∷ operations) sync = refl
 
--- Where it is idle behind it, the batch is in doubt.
+-- Where it is idle after it, the batch is in doubt.
 pub written_doubt : (m n : Machine) (operations : List Operation) (sync : Bool) (a : Answer) → m.opened ≡ true → m.broken ≡ false → Writes m operations sync a n → IsIdle n → n ≈ doubted m operations
 written_doubt m n operations sync a opens whole h idle = elim (written_to m n operations sync a h) [
   | inl same ↦ unidle m n same opens whole idle
@@ -182,7 +182,7 @@ closed_to : (m n : Machine) (a : Answer) → Closed m a n → n.opened ≡ false
 closed_to m n Done h = ap (λ (x : Machine). x.opened) h
 closed_to m n _ h = absurd h
 
--- None is open behind one.
+-- None is open after one.
 pub closed_idle : (m n : Machine) (a : Answer) → Closes m a n → n.opened ≡ false
 closed_idle m n a h = at m.opened refl h
   where
@@ -210,6 +210,6 @@ settles_broken m s h = at m.in_doubt h
     at (Some operations) (inl is) = ap (λ (x : Machine). x.broken) is
     at (Some operations) (inr is) = ap (λ (x : Machine). x.broken) is
 
--- One that was accepted serves.
+-- One that succeeded serves.
 pub opened_serves : (m n : Machine) → Opened m n → (n.opened ≡ true) × (n.broken ≡ m.broken)
 opened_serves m n h = (ap (λ (x : Machine). x.opened) h.3, ap (λ (x : Machine). x.broken) h.3 ∙ settles_broken m h.0 h.1)

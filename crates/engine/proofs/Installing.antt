@@ -141,11 +141,11 @@ module _ {K : Type 0} {g : _} (order : Order) (kept : (scan : Scan K g) → Scan
   entries_are : entries_of serving.contents db ≡ entries_in d
   entries_are = λ i. tabled (a.in_tables i) ++ a.in_logs i
 
-  -- the machine behind it
+  -- the machine after it
   abbrev pub ended_by : Machine
   ended_by = drawing m 0 facts
 
-  -- ---- the outputs are in the place of the inputs
+  -- ---- the outputs replace the inputs
 
   module _ (files : Files) (has : HasInstalled order (deep_of order.cmp work) work.job.plan.output_level work.job.selection.snapshots serving.ideal files c.came d c.running.inputs c.running.rest) where
     abbrev installed_as : Directory
@@ -176,7 +176,7 @@ module _ {K : Type 0} {g : _} (order : Order) (kept : (scan : Scan K g) → Scan
         came_of : (entry : Entry) → Among (tabled c.running.inputs) entry → Among (map entry_of (c.came ++ c.left)) entry
         came_of entry i = (c.running.may.entries entry).1 i
 
-    -- so does one at a sequence number above all that the tables had
+    -- the same for one at a sequence number above all that the tables had
     pub seen_above_tables : (p : ℕ) (contents : Contents) → AllUpTo p (tabled d.tables) → IsView (entries_in d) p contents → IsView (entries_in installed_as) p contents
     seen_above_tables p contents bounded view =
         parts_seen d.tables c.running.inputs c.running.rest has.outputs has.contents (logged d.logs) c.came work.job.selection.snapshots (deep_of order.cmp work) p c.reach contents

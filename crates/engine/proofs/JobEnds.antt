@@ -115,7 +115,7 @@ stopped_outcome {T = T} A B C old new state memory after_memory numbers job e re
     is_inner : {x : DbError} → SameRefusal {U = T} (Err e) (Err x) → e ≡ x
     is_inner is = cc
 
--- so does a refused end, but that the database is broken where the store failed
+-- the same for an end that fails, but that the database is broken where the store failed
 pub unended_outcome : {K T : Type 0} {g : _} (order : Order) (old mid new : Facts) (state : DbState K g) (memory after_memory : Memories) (numbers : FileNumbers) (job : Option (OpenJob K g)) (next sequence : ℕ) (manifest : CurrentManifest) (tables : List PlacedTable) (work : OpenJob K g) (e : FlushError)
     → RefusesEnd order mid new next sequence manifest tables work e → old.failures ≡ mid.failures → mid.failures ≤ new.failures → new.denials ≡ old.denials → LeavesMemories memory after_memory
     → DbOutcome {T = T} MayRefusePiece old new (open_db memory state) (open_db after_memory (broken_by (record state { directory = record state.directory { numbers = numbers }; job = job }) (flush_answer e))) (Err (flush_answer e))
@@ -169,7 +169,7 @@ same_on before between after first next = record {
   iterators = λ q. next.iterators q ∙ first.iterators q;
 }
 
--- a refusal behind a call that has left all that is answered from
+-- a refusal after a call that has left all that is answered from
 pub outcome_behind : {K T U : Type 0} {g : _} (old mid new : Facts) (before between after : OpenDb K g) (e : DbError) → old.failures ≡ mid.failures → mid.denials ≡ old.denials → IsSame before between → between.broken ≡ before.broken
     → DbOutcome {T = T} MayRefusePiece mid new between after (Err e) → DbOutcome {T = U} MayRefusePiece old new before after (Err e)
 outcome_behind {T = T} {U = U} old mid new before between after e stood undenied same whole h = record {
@@ -348,7 +348,7 @@ module _ {K : Type 0} {g : _} (order : Order) (total : IsTotalOrder order.cmp) (
         final_whole : m.damaged ≡ false → final ≡ facts.files
         final_whole undamaged = end_whole order kept one lasts new facts mid (drawing m most new.facts) on after c none_left undamaged
 
-        -- the machine behind both
+        -- the machine after both
         pub once : (s : Seen) (a : OpenDb K g) → IsServing order s a (drawing (drawing m most new.facts) 0 facts) → IsServing order s a (drawing m most facts)
         once s a h = (let none : m.numbers + most + 0 ≡ m.numbers + most = omega arith in subst (λ (k : ℕ). IsServing order s a (record m { numbers = k; failures = facts.failures; denials = facts.denials })) none h)
 
@@ -427,7 +427,7 @@ module _ {K : Type 0} {g : _} (order : Order) (total : IsTotalOrder order.cmp) (
       abbrev Spares : FlushError → Type 0
       Spares e = SparesManifest {T = Installed K} new.facts facts (string_bytes state.directory.manifest.name) (IsTableName (IsNumberAtHand after.job.outputs)) (Err e)
 
-      -- the outputs are in the place of the inputs
+      -- the outputs replace the inputs
       abbrev pub installed_state : Installed K → DbState K g
       installed_state installed = record (with_job None) { version = installed.version; directory = record state.directory { numbers = numbers; manifest = record state.directory.manifest { end = installed.manifest_end } } }
 
@@ -435,7 +435,7 @@ module _ {K : Type 0} {g : _} (order : Order) (total : IsTotalOrder order.cmp) (
       abbrev Carried : Type 0
       Carried = IsTrue facts.faithful → CarriesBut new.facts facts (IsTableName (IsNumberAtHand after.job.outputs))
 
-      -- and behind it no call came since the last sync
+      -- and after it no call came since the last sync
       abbrev Ends : Type 0
       Ends = IsTrue facts.faithful → behind_sync [] facts.calls ≡ []
 
@@ -536,7 +536,7 @@ module _ {K : Type 0} {g : _} (order : Order) (total : IsTotalOrder order.cmp) (
                 (serving_uninstalled order kept one lasts new facts mid (drawing m most new.facts) (on m serving f) after (c m serving f) (none_left m serving f) f install has.1 (spares f) (carries f)),
           ))
 
-      -- the device failed
+      -- the store failed
       failed : {T : Type 0} → new.facts.failures < facts.failures
           → ((m : Machine) (serving : IsServing order old db m) (f : IsTrue facts.faithful) → IsBroken order facts.files (record (drawing (drawing m most new.facts) 0 facts) { broken = true }))
           → LeadsOpen order old last_seen ids db (open_db after_memory (record (with_job None) { broken = true })) (λ m n. IsPiece {T = T} m most (Err error.Io) n)

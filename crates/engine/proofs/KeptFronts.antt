@@ -1,5 +1,5 @@
--- What syncs of the logs that an open found leave of the database, and a loss of power behind them:
--- what it left in front of them.
+-- What syncs of the logs that an open found leave of the database, and a power loss after them:
+-- what it left before them.
 use Rattle.std.proofs.Common.{◌≡◌, ◌≢◌, ◌<◌, ◌≤◌, ◌++◌, ◌∷◌, [], ℕ, Bool, true, false, List, Option, None, Some, Result, Ok, Err, MatchBool, OnOk, IsTrue, is_err, inl, inr, map, refl, sym, ap, subst, ◌∙◌, arith, append-nil, append_assoc, string_bytes}
 use Rattle.std.specs.FinMap.{contains_key, get}
 use Rattle.std.specs.List.{AllByRecursion}
@@ -76,7 +76,7 @@ grown_left a b q bytes held synced files (inl left) sound there kept is = kept s
 grown_left a b q bytes held synced files (inr whole) sound there kept is =
     begins_both bytes held synced (kept held (whole ∙ there)) (sound q held synced (sym (ap (λ (fs : Files). get fs q) files) ∙ there) is)
 
--- Behind a sync that was accepted, a loss until the next call is one in front of it.
+-- After a sync that succeeded, a loss until the next call is one before it.
 pub lost_grown : (a b : Facts) (lost : Files) → b.files ≡ a.files → ((q : List ℕ) → LeavesOrSyncs a b q) → SyncsBeginnings a → behind_sync [] b.calls ≡ [] → Lost b (moment b) lost → Lost a (moment a) lost
 lost_grown a b lost files leaves sound ends h =
     let since : IsLost b.files [] (disk_of b) lost = subst (λ (calls : List Call). IsLostSince calls (disk_of b) lost) ends (lost_here b lost h) in
@@ -101,7 +101,7 @@ each_calls (name ∷ done) a b each =
     let call : Call = record { found = disk_of a; change = Sync name } in
     (call ∷ rest.0, rest.1 ∙ ap (λ (calls : List Call). calls ++ rest.0) each.1.0 ∙ append_assoc a.calls (call ∷ []) rest.0)
 
--- At each moment of them a loss is one in front of them.
+-- At each moment of them a loss is one before them.
 pub loses_each : (done : List (List ℕ)) (a b : Facts) (P : Files → Type 0) → SyncsEach done a b → SyncsBeginnings a → LosesOnly a a P → LosesOnly a b P
 loses_each [] a b P idle sound here = loses_same a b P idle.0 (ap (λ (disk : Disk). disk.files) idle.1) (ap (λ (disk : Disk). disk.synced) idle.1) here
 loses_each (name ∷ done) a b P each sound here =
@@ -111,7 +111,7 @@ loses_each (name ∷ done) a b P each sound here =
     let rest = each_calls done mid b each.3 in
     loses_both a mid b rest.0 P rest.1 (loses_noted a mid (Sync name) P (inr each.1) here behind) (loses_each done mid b P each.3 (grown_sound a mid each.1.1 leaves sound) behind)
 
--- and behind other calls
+-- and after other calls
 pub loses_kept : (done : List (List ℕ)) (old mid kept : Facts) (first : List Call) (P : Files → Type 0) → mid.calls ≡ old.calls ++ first → SyncsEach done mid kept → SyncsBeginnings mid → LosesOnly old mid P → LosesOnly old kept P
 loses_kept done old mid kept first P began each sound h =
     let rest = each_calls done mid kept each in
@@ -123,7 +123,7 @@ stays_grown since a b bound files leaves h =
     let stays : (q : List ℕ) → StaysOrGoes a b q = λ q. inr (same q, left_kept a b q (same q) (leaves q)) in
     stays_through since a b bound (same (name_of Current)) (λ n num below. (stays (name_of (Table n)), stays (name_of (OldTable n)), stays (name_of (Log n)))) h
 
--- So of an open what it left in front of them it leaves behind them.
+-- So what an open left before them it leaves after them.
 module _ (order : Order) (done : List (List ℕ)) (old mid kept : Facts) (first : List Call) (began : mid.calls ≡ old.calls ++ first) (each : SyncsEach done mid kept) (sound : SyncsBeginnings mid) where
   pub meaning_kept : (m : Machine) → LosesMeaning order old mid m → LosesMeaning order old kept m
   meaning_kept m h = loses_kept done old mid kept first _ began each sound h
@@ -133,7 +133,7 @@ module _ (order : Order) (done : List (List ℕ)) (old mid kept : Facts) (first 
       let before = h since bound m stays here in
       (loses_kept done old mid kept first (LeavesFirst order since bound m) began each sound before.0, stays_grown since mid kept bound files leaves before.1)
 
--- and a stop
+-- and a process crash
 pub stops_kept : (order : Order) (old mid kept : Facts) (m : Machine) → LeavesOnly old mid (λ files. MeansAccepted order files m) → LeavesOnly mid kept (λ files. files ≡ mid.files) → LeavesOnly old kept (λ files. MeansAccepted order files m)
 stops_kept order old mid kept m first next =
     leaves_both old mid kept (λ files. MeansAccepted order files m) first
@@ -169,7 +169,7 @@ durable_kept n a b files leaves h =
 
 -- ---- the logs that were found
 
--- Those that the next open reads are in front of the new one, or aren't there.
+-- Those that the next open reads are before the new one, or aren't there.
 pub found_kept : (order : Order) (old mid kept : Facts) (log : CurrentLog) (state : DirectoryState) → BeginsSynced old mid log state → RenewsWhole order old mid log state → string_bytes log.name ≡ name_of (Log log.number) → kept.files ≡ mid.files
     → AllByRecursion (IsSynced kept) (map string_bytes log.front.items) → HasKeptLogs kept state
 found_kept order old mid kept log state begins renewed named files front n num less read =
@@ -247,7 +247,7 @@ module _ {K : Type 0} {g : _} (order : Order) (law : SoundStays) (old : Facts) (
   abbrev kept : Seen
   kept = record mid { facts = facts }
 
-  -- An open that was accepted is so behind them.
+  -- An open that succeeded is so after them.
   pub leads_kept : (ids : Ids) (x : Unit {0}) → SyncsFront (map string_bytes db.log.front.items) mid.facts facts (Ok x) → (IsTrue facts.faithful → CarriesBut mid.facts facts (λ (q : List ℕ). ⊥))
       → log.number ≡ db.log.number → log.name ≡ db.log.name → log.end ≡ db.log.end → log.front.items ≡ []
       → Leads old mid.facts (Rests order old ids) (StandsOpen order mid ids db) (λ m n. Opens m mode Done n)
@@ -302,7 +302,7 @@ outcome_refused old mid kept names these rise failures denials = record {
 pub durable_refused : {T : Type 0} (n : ℕ) (old mid kept : Facts) (names : List (List ℕ)) → SyncsThese names mid kept → (IsTrue mid.faithful → HasDurable n mid) → LeavesDurable {T = T} old kept (Err error.Io)
 durable_refused n old mid kept names these has = record { ok = λ f. tt; err = λ f. inr (n, (durable_kept n mid kept (these.files f) (these.keeps f) (has (these.faithful f))).durable) }
 
--- Memory was missing behind them.
+-- Memory was missing after them.
 pub is_memory : (e : DbError) → is_of_memory e ≡ true → e ≡ error.OutOfMemory
 is_memory error.OutOfMemory is = refl
 is_memory _ is = absurd (let bad : false ≡ true = is in cc)
@@ -320,7 +320,7 @@ outcome_starved old new stood denials = record {
 
 -- ---- of a session
 
--- It says nothing of an open that was refused.
+-- It says nothing of an open that failed.
 pub kept_refused : {K : Type 0} {g : _} (facts : Facts) (state : Option (OpenDb K g)) (e : DbError) → KeptOver facts state (Refused e)
 kept_refused facts None e = tt
 kept_refused facts (Some db) e = tt

@@ -1,5 +1,5 @@
--- What losses tell of tables: one that is read, and that wasn't there in front of all of them, is
--- synced whole, as a loss would cut it else.
+-- What losses tell of tables: one that is read, and that wasn't there before all of them, is synced
+-- whole, as a loss would cut it else.
 use Rattle.std.proofs.Common.{◌≡◌, ◌≢◌, ◌⊎◌, ◌<◌, ◌≤◌, ◌+◌, ◌++◌, ◌∷◌, ℕ, List, [], Contains, length, Option, Some, None, is_some, inl, inr, refl, sym, ap, subst, ◌∙◌, append-nil, arith}
 use Rattle.std.proofs.lemmas.Bool.{cases_eq, cases_lt}
 use Rattle.std.proofs.lemmas.List.{length-append}
@@ -143,7 +143,7 @@ spares_other since now bound file lost stays apart others n num below =
 
 -- ---- a table that was cut
 
--- What holds the first of the batches, and has the same MANIFEST, has each of its tables with its
+-- What holds a prefix of the batches, and has the same MANIFEST, has each of its tables with its
 -- size.
 sized : (order : Order) (now : Files) (d : Directory) (m : Machine) (lost : Files) → IsConsistent order now d → HoldsFirst order lost m → get lost (name_of Current) ≡ get now (name_of Current) → get lost (name_of (Manifest d.manifest)) ≡ get now (name_of (Manifest d.manifest))
     → (content : TableContent) → InTables d.tables content → (bytes : List ℕ) × (table_at lost content.placed.table.number ≡ Some bytes) × (length bytes ≡ content.placed.table.size)

@@ -111,7 +111,7 @@ starts_first order facts ideal first from is =
 pub first_itself : (order : Order) (facts : Facts) (m : Machine) → IsFirst order facts m → IsFirst order (with_files facts facts.files) m
 first_itself order facts m is = record { holds = is.holds; bounds = is.bounds; accepted = is.accepted; closed = is.closed; ids = is.ids; counts = is.counts; size = is.size }
 
--- and so it is at the end
+-- and the same holds at the end
 pub last_itself : (order : Order) (facts : Facts) (ideal : Files) (m : Machine) → ideal ≡ facts.files → IsLast order (with_files facts ideal) m → IsLast order facts m
 last_itself order facts ideal m same is = record {
   holds = subst (λ (fs : Files). HoldsAccepted order fs m) same is.holds;

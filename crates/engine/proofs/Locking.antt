@@ -121,7 +121,7 @@ told_most : (e : DbError) (old new : Facts) → old.failures ≤ new.failures �
 told_most Io old new rise io = let fails : old.failures < new.failures = io refl in omega (arith, fails)
 told_most _ old new rise io = omega (arith, rise)
 
--- it was, and given back
+-- it was, and released
 pub given_back : {T : Type 0} (old mid new last : Facts) (e : DbError) (r : Result (Unit {0}) StoreError) → TakesLock old mid (Ok tt) → mid.failures ≤ new.failures → (e ≡ Io → mid.failures < new.failures) → (IsTrue new.faithful → IsTrue mid.faithful) → LeavesDurable {T = T} mid new (Err e) → (IsTrue new.faithful → Spares mid new)
     → Counts new last r → (IsTrue last.faithful → last.files ≡ new.files) → (IsTrue last.faithful → last.synced ≡ new.synced) → OnOk r (last.locked ≡ false) → r ≢ Err store_error.Missing → r ≢ Err store_error.Memory
     → OpensStore {T = T} old last (Err e)
@@ -150,7 +150,7 @@ given_back {T} old mid new last e r taken rise io back d spared counts files syn
       foreign = λ f. foreign_locked old mid last taken (back (counts.faithful f)) (left f);
     }
 
--- where no memory was found no failure was counted, unless the lock wasn't given back
+-- where no memory was found no failure was counted, unless the lock wasn't released
 pub stood_still : (r : Result (Unit {0}) StoreError) (old mid new last : Facts) → TakesLock old mid (Ok tt) → mid.failures ≡ old.failures → new.failures ≡ mid.failures → new.locked ≡ mid.locked → Counts new last r → OnErr r (last.locked ≡ new.locked)
     → (last.failures ≡ old.failures) ⊎ (last.locked ≡ true)
 stood_still (Ok x) old mid new last taken first stood same counts kept = inl (counts.unfailed (λ k. cc) ∙ stood ∙ first)

@@ -1,4 +1,4 @@
--- What a loss of power leaves of an open database.
+-- What a power loss leaves of an open database.
 use Rattle.std.proofs.Common.{◌≡◌, ◌≢◌, ◌⊎◌, ◌<◌, ◌≤◌, ◌+◌, ◌++◌, ◌∷◌, ℕ, suc, false, List, [], length, drop, Contains, map, Option, Some, None, Result, Ok, Err, OnOk, inl, inr, sym, ap, subst, ◌∙◌, arith, append_assoc, string_bytes}
 use Rattle.std.proofs.lemmas.Bool.{cases_lt}
 use Rattle.std.proofs.lemmas.List.{length-append, length-drop}
@@ -48,7 +48,7 @@ one_or_none q (name ∷ names) = elim (same_or_other q name) [
   ]
 ]
 
--- so many batches behind the first of some, of which there are no more
+-- so many batches after the first of some, of which there are no more
 pub counted_within : (m : Machine) (from count : ℕ) → from ≤ length m.batches → count ≤ length (drop from m.batches) → from + count ≤ length m.batches
 counted_within m from count within le =
     let left = length-drop from m.batches in

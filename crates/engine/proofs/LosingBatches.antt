@@ -1,5 +1,5 @@
--- What a loss of power leaves in the middle of a write: the first of the accepted batches, with
--- that of the write or without it.
+-- What a power loss leaves in the middle of a write: a prefix of the batches, with that of the
+-- write or without it.
 use Rattle.std.proofs.Common.{◌≡◌, ◌≢◌, ◌⊎◌, ◌<◌, ◌+◌, ◌++◌, ◌∷◌, ℕ, false, List, [], length, map, take, Option, Some, None, Ok, inl, inr, refl, sym, ap, subst, ◌∙◌, arith, append-nil, append_assoc, string_bytes}
 use Rattle.std.specs.FinMap.{get}
 use Rattle.std.specs.List.{AllByRecursion}
@@ -329,11 +329,11 @@ module _ {K : Type 0} {g : _} (order : Order) (db : OpenDb K g) (names : HaveNam
   with_batch : (a b : Facts) (k m : Machine) (operations : List Operation) → ((lost : Files) → HoldsFirst order lost k → HoldsFirst order lost (accepted m operations false)) → LosesFirst order a b db k → LosesFirst order a b db (accepted m operations false)
   with_batch a b k m operations so h lost since spares = so lost (h lost since spares)
 
-  -- in front of it, and where nothing is done
+  -- before it, and where nothing is done
   pub unwritten_first : (then : Facts) (d : Directory) (m : Machine) (operations : List Operation) → CanLoseHere then d m → LosesFirst order then then db (accepted m operations false)
   unwritten_first then d m operations h = with_batch then then m m operations (λ lost holds. first_accepted order lost m operations holds) (here_first then d m h)
 
-  -- behind the logs in front: the append, and the sync
+  -- after the logs in front: the append, and the sync
   puts_first : (mid new : Facts) (bytes : List ℕ) (d : Directory) (m : Machine) (operations : List Operation) → operations ≢ [] → CanLoseHere mid d m → used_in d ≡ m.used → (puts : PutsSynced mid new (string_bytes db.log.name) bytes)
       → ((files : Files) → AppendsBeginning mid.files files (string_bytes db.log.name) bytes → HasLastLog order files d db.log.number m.used operations)
       → ((n : ℕ) → IsNumbered n → IsLogRead db.directory n → n < db.log.number → IsKept mid (name_of (Log n))) → LosesFirst order mid new db (accepted m operations false) × KeepsFound mid new db

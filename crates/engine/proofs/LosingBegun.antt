@@ -1,4 +1,4 @@
--- A loss of power leaves no more where something of a file is synced than where nothing is.
+-- A power loss leaves no more where something of a file is synced than where nothing is.
 use Rattle.std.proofs.Common.{◌≡◌, inl, inr, ℕ, List, [], ◌∷◌, Option, Some, None, length, take, drop, refl, sym, ap, subst, ◌∙◌, arith}
 use Rattle.std.proofs.lemmas.List.{drop_all, take_all}
 use Rattle.std.specs.FinMap.{get}

@@ -1,5 +1,5 @@
--- What a loss of power leaves of an open database while calls write files that it doesn't read, and
--- while an edit is put behind its MANIFEST.
+-- What a power loss leaves of an open database while calls write files that it doesn't read, and
+-- while an edit is put after its MANIFEST.
 use Rattle.std.proofs.Common.{◌≡◌, ◌<◌, ◌++◌, ℕ, List, None, inl, inr, refl, sym, ap, subst, ◌∙◌, arith}
 use Rattle.std.proofs.lemmas.List.{append_cancel_left}
 use Rattle.std.specs.FinMap.{get}
@@ -40,7 +40,7 @@ use Rattle.engine.specs.internal.Recent.{AreRecent}
 use Rattle.engine.specs.internal.Standing.{IsServing, entries_of}
 use Rattle.engine.specs.internal.Synced.{HaveStayed}
 
--- what is so of all that a stop leaves, and what else is
+-- what is so of all that a process crash leaves, and what else is
 pub leaves_two : (old new : Facts) (P Q : Files → Type 0) → LeavesOnly old new P → LeavesOnly old new Q → LeavesOnly old new (λ files. P files × Q files)
 leaves_two old new P Q h k = record {
   more = h.more;
@@ -132,7 +132,7 @@ module _ {K : Type 0} {g : _} (order : Order) (source : Seen) (db : OpenDb K g) 
     reads_none q (inl (inr (inr (content, among, inr older)))) of_mine = (spares.placed content.placed (listed order source db m serving content among)).1 older.1 (subst mine older.0 of_mine)
     reads_none q (inr log) of_mine = spares.logs log.0 log.1 (read_live order source db m serving log.0 log.2) (subst mine log.3 of_mine)
 
-    -- so it stands behind such calls
+    -- so it stands after such calls
     pub can_written : CanLose order new db d m
     can_written = can_then order source.facts new db d m mine can_serving reads_logs (keeps_now source.facts new mine writes) reads_none
 
@@ -175,8 +175,7 @@ found_written old new db mine writes current lock each =
 
 -- ---- an edit
 
--- one of these directories stands for the first batches, whatever of the edit is behind the
--- MANIFEST
+-- one of these directories stands for the first batches, whatever of the edit is after the MANIFEST
 pub put_first : {K : Type 0} {g : _} (order : Order) (old mid new : Facts) (more : List Call) (db : OpenDb K g) (tables : List PlacedTable) (m : Machine) (name bytes : List ℕ) (P : Files → Type 0) (Q : Directory → Type 0)
     → mid.calls ≡ old.calls ++ more → PutsSynced mid new name bytes → LeavesOnly old new P
     → ((files : Files) → P files → (x : Directory) × Q x × IsConsistent order files x) → ((x : Directory) → Q x → name ≡ name_of (Manifest x.manifest))
@@ -184,7 +183,7 @@ pub put_first : {K : Type 0} {g : _} (order : Order) (old mid new : Facts) (more
 put_first order old mid new more db tables m name bytes P Q calls puts stops one named whole spares can stayed =
     first_one order mid new db m Q can (found_put mid db tables stayed new name bytes puts) (loses_put left_by_loss cut_directory order old mid new more name bytes P Q calls puts stops one named whole spares)
 
--- behind what was written, or not
+-- after what was written, or not
 pub written_then : {K : Type 0} {g : _} (order : Order) (old new : Facts) (db : OpenDb K g) (m : Machine) (mine : List ℕ → Type 0) (manifest : List ℕ) (is_kept : Facts → Type 0) → (w : WritesThenPuts old new mine manifest is_kept)
     → LosesFirst order old w.mid db m → KeepsFound old w.mid db → (PutsEdit old w.mid new manifest is_kept → LosesFirst order w.mid new db m) → LosesFirst order old new db m
 written_then order old new db m mine manifest is_kept w first keeps next = elim w.puts [

@@ -1,4 +1,4 @@
--- What a loss of power leaves in the middle of the calls of a database, and of the commands of a
+-- What a power loss leaves in the middle of the calls of a database, and of the commands of a
 -- session.
 use Rattle.std.proofs.Common.{◌≡◌, ◌≤◌, ℕ, Bool, true, false, List, [], ◌∷◌, length, Option, Some, None, IsTrue, refl, sym, ap, subst, ◌∙◌, arith}
 use Rattle.batch.specs.declared.operation.Operation.{Operation}
@@ -50,7 +50,7 @@ module _ {S K : Type 0} {g : _} (order : Order) (facts : S → Facts) where
   db_found_none db f m undamaged s whole = found_same (facts (db_store_of db)) (facts (db_store_of db)) (open_by db) refl refl
 
   module _ (old mid new : Db S K g) (back : IsTrue (facts (db_store_of new)).faithful → IsTrue (facts (db_store_of mid)).faithful) (found : DbKeepsFound order facts old mid) where
-    -- work, one behind the other
+    -- work, one after the other
     module _ (steps : FollowsDb order facts old mid OnlyDraws) where
       pub db_loses_then : DbStops order facts mid new → DbLoses order facts old mid → DbLoses order facts mid new → DbLoses order facts old new
       db_loses_then stops first next f m undamaged s whole =
@@ -73,7 +73,7 @@ module _ {S K : Type 0} {g : _} (order : Order) (facts : S → Facts) where
           (found_behind order (seen_by facts old) (seen_by facts mid) (db_ids_of old) (db_ids_of mid) (open_by old) (open_by mid) m n (record { stands = s; undamaged = undamaged }) whole (record { stands = one.2; undamaged = still }) one.1.1 kept
           (facts (db_store_of new)) (λ unbroken. next f n still one.2 unbroken))
 
-    -- work behind a write
+    -- work after a write
     module _ (operations : List Operation) (sync : Bool) (step : FollowsDb order facts old mid (λ m n. Writes m operations sync Done n)) where
       pub db_loses_written : DbStops order facts mid new → DbLosesWrite order facts operations old mid → DbLoses order facts mid new → DbLosesWrite order facts operations old new
       db_loses_written stops first next f m undamaged s whole =
@@ -137,7 +137,7 @@ loses_lent order source new ids o db is keeps f m undamaged s =
 
 -- ---- what stays of the files that the open found
 
--- behind a command that changes nothing
+-- after a command that changes nothing
 pub found_standing : {K : Type 0} {g : _} (o : Option (OpenDb K g)) (old new : Facts) → (IsTrue new.faithful → new.files ≡ old.files) → (IsTrue new.faithful → new.synced ≡ old.synced) → IsTrue new.faithful → FoundOver old new o
 found_standing None old new files synced f = tt
 found_standing (Some db) old new files synced f = λ whole. found_same old new db (files f) (synced f)

@@ -1,5 +1,5 @@
--- From what a loss of power leaves of a directory, at some moment of a call, to the first of the
--- accepted batches.
+-- From what a power loss leaves of a directory, at some moment of a call, to a prefix of the
+-- batches.
 use Rattle.std.proofs.Common.{◌≡◌, ◌⊎◌, ◌+◌, ◌≤◌, ◌<◌, ◌++◌, ◌∷◌, ℕ, List, [], length, take, Option, Some, None, is_some, true, false, inl, inr, refl, sym, subst, ◌∙◌, arith}
 use Rattle.std.proofs.lemmas.Bool.{cases_lt}
 use Rattle.std.proofs.lemmas.List.{length-append, take-append-le}
@@ -108,7 +108,7 @@ pub first_cut : {K : Type 0} {g : _} (order : Order) (then new : Facts) (db : Op
 first_cut order then new db d m can names leaves lost since spares =
     first_left order then db d m lost can spares (names lost since) (leaves lost since (are_left order then db d m lost can spares))
 
--- ---- one call behind another
+-- ---- one call after another
 
 -- a file that is as it was, and kept if it was, or gone, is left whole where it was
 pub left_on : (old then : Facts) (lost : Files) (q : List ℕ) → StaysOrGoes old then q → IsLeftWhole old lost q → IsLeftWhole then lost q
@@ -163,7 +163,7 @@ module _ {K : Type 0} {g : _} (old : Facts) (db : OpenDb K g) (tables : List Pla
   pub found_on : (new : Facts) (mine : List ℕ → Type 0) → WritesOnly old new mine → ((n : ℕ) → IsNumbered n → IsLogRead db.directory n → mine (name_of (Log n)) → ⊥) → LosesOnly old new (HasFoundLogs old db)
   found_on new mine writes apart lost since n num read below = names_on old new mine (name_of (Log n)) writes (apart n num read) (stayed.found n num read below) lost since
 
-  -- while bytes are put behind a file and synced
+  -- while bytes are put after a file and synced
   pub found_put : (new : Facts) (name bytes : List ℕ) → PutsSynced old new name bytes → LosesOnly old new (HasFoundLogs old db)
   found_put new name bytes puts lost since n num read below = names_put old new name bytes (name_of (Log n)) puts (stayed.found n num read below) lost since
 

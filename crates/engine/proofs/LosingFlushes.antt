@@ -1,4 +1,4 @@
--- What a loss of power leaves of an open database in the middle of a flush.
+-- What a power loss leaves of an open database in the middle of a flush.
 use Rattle.std.proofs.Common.{◌≡◌, ◌≢◌, ◌⊎◌, ◌<◌, ◌≤◌, ◌^◌, ◌∷◌, ◌++◌, ℕ, List, [], Some, None, IsTrue, inl, inr, refl, sym, ap, subst, ◌∙◌, arith, string_bytes}
 use Rattle.std.specs.FinMap.{get}
 use Rattle.directory_writes.specs.internal.Calls.{LeavesFile}

@@ -1,4 +1,4 @@
--- What a loss of power leaves of an open database in the middle of the end of a compaction.
+-- What a power loss leaves of an open database in the middle of the end of a compaction.
 use Rattle.std.proofs.Common.{◌≡◌, ◌≢◌, ◌⊎◌, ◌<◌, ◌≤◌, ◌∷◌, ◌++◌, ℕ, List, Contains, [], Some, None, IsTrue, inl, inr, refl, sym, ap, subst, ◌∙◌, arith, string_bytes}
 use Rattle.std.specs.FinMap.{get}
 use Rattle.compact.specs.Outputs.{IsNumberAtHand, IsOwn, IsTableName}
@@ -56,12 +56,12 @@ module _ {K : Type 0} {g : _} (order : Order) (kept : (scan : Scan K g) → Scan
   abbrev pub Installs : Files → Type 0
   Installs files = HasInstalled order (deep_of order.cmp work) work.job.plan.output_level work.job.selection.snapshots serving.ideal files c.came d c.running.inputs c.running.rest
 
-  -- what a stop may leave
+  -- what a process crash may leave
   abbrev pub MayLeave : Files → Type 0
   MayLeave files =
       MayBeInstalled order (deep_of order.cmp work) work.job.plan.output_level work.job.selection.snapshots serving.ideal files db.directory.numbers.next c.came d c.running.inputs c.running.rest × PutsOwn order work.job.outputs files d
 
-  -- ---- a directory with the outputs in the place of the inputs
+  -- ---- a directory with the outputs instead of the inputs
 
   module _ (mid : Facts) (can : CanLose order mid db d m) (stayed : HaveStayed mid db.directory db.tables) (same : serving.ideal ≡ old.facts.files) (outputs : AreOutputsKept order.cmp work.job old.facts db.directory.numbers.next mid) where
     whole : (number : ℕ) → IsOwn work.job.outputs number → (file : List ℕ) × (get mid.files (name_of (Table number)) ≡ Some file) × (mid.synced (name_of (Table number)) ≡ Some file)

@@ -1,4 +1,4 @@
--- What a loss of power leaves in the middle of an open: what the directory stood for.
+-- What a power loss leaves in the middle of an open: what the directory stood for.
 use Rattle.std.proofs.Common.{◌≡◌, ◌≢◌, ◌⊎◌, ◌<◌, ◌++◌, ◌+◌, ℕ, cond, Bool, true, false, List, [], ◌∷◌, max, IsTrue, MatchOption, Option, Some, None, is_some, inl, inr, refl, sym, ap, subst, ◌∙◌, arith, append-nil, append_assoc, string_bytes}
 use Rattle.std.proofs.lemmas.List.{nil_from_length}
 use Rattle.std.specs.FinMap.{contains_key, get, insert}
@@ -135,7 +135,7 @@ continued_loses order old new m means h =
 pub unwritten_means : (order : Order) (old : Facts) (m : Machine) → MeansAccepted order old.files m → HaveNamesStayed old → LosesMeaning order old old m
 unwritten_means order old m means stays = continued_loses order old old m means (unwritten_loses order old old refl refl refl stays)
 
--- ---- files that aren't live are removed behind it
+-- ---- obsolete files are removed after it
 
 each_left : (facts : Facts) (lost : Files) (logs : List LogContent) → ((n : ℕ) → InLogs logs n → get lost (name_of (Log n)) ≡ get facts.files (name_of (Log n))) → AllByRecursion (IsLeft facts lost) logs
 each_left facts lost [] same = tt
@@ -215,7 +215,7 @@ module _ {K : Type 0} {g : _} (order : Order) (source : Seen) (db : OpenDb K g) 
       has : HasLogs source.facts.files (before ++ last ∷ [])
       has = subst (HasLogs source.facts.files) logs_are good.logs
 
-      -- nothing has been put behind the new log
+      -- nothing has been put after the new log
       last_empty : last.batches ≡ []
       last_empty =
           let ends = serving.log.directory.ends in
@@ -268,7 +268,7 @@ module _ {K : Type 0} {g : _} (order : Order) (source : Seen) (db : OpenDb K g) 
       let cut = loses_writing free_change left_by_loss cut_directory order source.facts new d mine writes (reads_none order source db m serving same new mine writes spares) good (spared order source db m serving) lost since (left_whole lost still) in
       current_means order lost m serving.certain (left_means lost still cut)
 
-  -- the open has written none of that but what is synced, and behind that more was synced
+  -- the open has written none of that but what is synced, and after that more was synced
   module _ (old mid : Facts) (mid_log : CurrentLog) (begins : BeginsSynced old mid mid_log db.directory) (number : db.log.number ≡ mid_log.number) (files : source.facts.files ≡ mid.files) (syncs : (q : List ℕ) → LeavesOrSyncs mid source.facts q)
       (lost : Files) (uncut : LeavesUncut old lost) where
     abbrev IsWholeAt : List ℕ → Type 0
@@ -318,7 +318,7 @@ module _ {K : Type 0} {g : _} (order : Order) (source : Seen) (db : OpenDb K g) 
 
 -- ---- the whole of it
 
--- behind syncs of some files the calls since the last one spare as much
+-- after syncs of some files the calls since the last one spare as much
 pub begun_kept : (done : List (List ℕ)) (mid kept : Facts) (log : List ℕ) → BeginsSpared mid log → SyncsEach done mid kept → BeginsSpared kept log
 begun_kept done mid kept log begun syncs = elim (synced_or_idle done mid kept syncs) [
   | inl idle ↦
@@ -330,7 +330,7 @@ begun_kept done mid kept log begun syncs = elim (synced_or_idle done mid kept sy
   | inr ends ↦ record { others = λ q apart. stays_behind kept q ends; begun = begins_behind kept log ends }
 ]
 
--- the removal of files behind it, with syncs in front of that
+-- the removal of files after it, with syncs before that
 pub opened_loses : {K : Type 0} {g : _} (order : Order) (old : Facts) (mid kept new : Seen) (db cleared : OpenDb K g) (mode : Mode) → (IsTrue new.facts.faithful → IsTrue kept.facts.faithful) → (IsTrue kept.facts.faithful → IsTrue mid.facts.faithful)
     → ((ids : Ids) → Leads old kept.facts (Rests order old ids) (StandsOpen order kept ids cleared) (λ m n. Opens m mode Done n)) → (IsTrue kept.facts.faithful → (m : Machine) → MeansAccepted order old.files m → HaveNamesStayed old → LosesMeaning order old kept.facts m)
     → (IsTrue mid.facts.faithful → BeginsSynced old mid.facts db.log db.directory) → (IsTrue kept.facts.faithful → BeginsSpared kept.facts (string_bytes cleared.log.name)) → (IsTrue kept.facts.faithful → kept.facts.files ≡ mid.facts.files) → (IsTrue kept.facts.faithful → (q : List ℕ) → LeavesOrSyncs mid.facts kept.facts q)
@@ -353,7 +353,7 @@ opened_loses order old mid kept new db cleared mode back further step first begi
     (λ lost since uncut. opened_back order lost m n mode r.opened one.1
     (left lost since (opened_uncut order kept cleared n serving refl empty (begun still) new.facts mine writes spares old mid.facts db.log began number (files still) (syncs still) lost uncut)))
 
--- behind the lock
+-- after the lock
 module _ (order : Order) (old mid : Facts) (m : Machine) (may : MayLock old.files mid.files) (synced : mid.synced ≡ old.synced) (noted : Idles old mid ⊎ Adds old mid LockFile) (stays : (name : List ℕ) → StaysNamed old name)
     (means : MeansAccepted order old.files m) where
   abbrev Meant : Files → Type 0
@@ -364,7 +364,7 @@ module _ (order : Order) (old mid : Facts) (m : Machine) (may : MayLock old.file
       loses_both old mid new goes.more Meant goes.calls (lock_loses order old mid m synced noted stays means)
       (loses_so mid new (λ lost. LeavesUncut mid lost → MeansAccepted order lost m) Meant (λ lost k uncut. k (lock_uncut old mid lost may synced uncut)) (h (lock_stayed old mid synced noted stays)))
 
-  -- and a call behind it that changes nothing
+  -- and a call after it that changes nothing
   pub unlocked_loses : (new last : Facts) (P : Files → Type 0) → LeavesOnly mid new P → (HaveNamesStayed mid → LosesMeaning order mid new m) → last.calls ≡ new.calls → last.files ≡ new.files → last.synced ≡ new.synced → LosesMeaning order old last m
   unlocked_loses new last P goes h calls files same =
       let first = (lock_writes old mid synced noted).leaves in

@@ -1,5 +1,5 @@
--- What a loss of power leaves in the middle of a piece of work, and what stays of the files that
--- the open found.
+-- What a power loss leaves in the middle of a piece of work, and what stays of the files that the
+-- open found.
 use Rattle.std.proofs.Common.{◌≡◌, ◌⊎◌, ◌<◌, ◌≤◌, ℕ, Bool, true, false, List, None, MatchBool, inl, inr, refl, sym, ap, subst, ◌∙◌}
 use Rattle.std.specs.FinMap.{get}
 use Rattle.directory_writes.specs.Removal.{IsDead, IsLiveAmong}
@@ -61,7 +61,7 @@ first_same order source ids db m new s whole calls files synced =
     loses_same source.facts new (λ lost. SparesFound source.facts db lost → HoldsFirst order lost m) calls files synced
     (first_serving order source db m serving refl)
 
--- ---- files that aren't live
+-- ---- obsolete files
 
 module _ {K : Type 0} {g : _} (order : Order) (source : Seen) (ids : Ids) (db : OpenDb K g) (m : Machine) (new : Facts) (s : StandsWhole order source ids db m) (whole : db.broken ≡ false) where
   abbrev Dead : List ℕ → Type 0
@@ -88,7 +88,7 @@ module _ {K : Type 0} {g : _} (order : Order) (source : Seen) (ids : Ids) (db : 
         each = λ n num below. (each (name_of (Table n)), each (name_of (OldTable n)), each (name_of (Log n)));
       }
 
--- ---- one piece behind another
+-- ---- one piece after another
 
 -- one that the machine says isn't broken
 pub unbroken_by : {K : Type 0} {g : _} (order : Order) (source : Seen) (ids : Ids) (db : OpenDb K g) (m : Machine) → m.broken ≡ false → StandsOpen order source ids db m → db.broken ≡ false

@@ -1,4 +1,4 @@
--- What a loss of power leaves while a log is begun: it may be there, or not.
+-- What a power loss leaves while a log is begun: it may be there, or not.
 use Rattle.std.proofs.Common.{◌≡◌, ◌≢◌, ◌⊎◌, ◌<◌, ◌+◌, ◌++◌, ◌∷◌, ◌^◌, ℕ, true, List, [], None, inl, inr, refl, sym, ap, subst, ◌∙◌, arith}
 use Rattle.std.specs.FinMap.{get, contains_key}
 use Rattle.directory_writes.proofs.StoreCalls.{with_other}
@@ -50,8 +50,8 @@ in_pushed [] log n (inr none) = absurd none
 in_pushed (x ∷ logs) log n (inl is) = inl (inl is)
 in_pushed (x ∷ logs) log n (inr i) = elim (in_pushed logs log n i) [ inl there ↦ inl (inr there) | inr is ↦ inr is ]
 
--- The log of the next number was created. What is synced of it isn't known, where the device
--- failed: less is left where nothing is.
+-- The log of the next number was created. What is synced of it isn't known, if the store failed:
+-- less is left where nothing is.
 module _ {K : Type 0} {g : _} (order : Order) (source : Seen) (db : OpenDb K g) (m : Machine) (serving : IsServing order source db m) (same : serving.ideal ≡ source.facts.files)
     (facts : Facts) (numbers : FileNumbers) (next_is : numbers.next ≡ db.directory.numbers.next + 1) (few : db.directory.numbers.next < 2 ^ 62)
     (adds : Adds source.facts facts (Creation (name_of (Log db.directory.numbers.next)))) (stays : (q : List ℕ) → q ≢ name_of (Log db.directory.numbers.next) → facts.synced q ≡ source.facts.synced q)
@@ -193,7 +193,7 @@ module _ {K : Type 0} {g : _} (order : Order) (source : Seen) (db : OpenDb K g) 
   pub found_begun : KeepsFound old facts db
   found_begun = as_it_was facts (λ q apart. ((left q apart).0, stays q apart))
 
-  -- at the moment in front of it, and at that behind it
+  -- at the moment before it, and at that after it
   pub first_begun : IsConsistent order facts.files d ⊎ HasNewLog order facts.files d next → LosesFirst order old facts db m
   first_begun now =
       let P : Files → Type 0 = λ lost. SparesFound old db lost → HoldsFirst order lost m in

@@ -1,4 +1,4 @@
--- What a loss of power leaves of an open database in the middle of a step of a compaction.
+-- What a power loss leaves of an open database in the middle of a step of a compaction.
 use Rattle.std.proofs.Common.{◌≡◌, ◌≤◌, ◌+◌, ℕ, Some, IsTrue, inl, inr, arith}
 use Rattle.compact.specs.Outputs.{IsMineUpTo, IsTableName}
 use Rattle.edits.specs.Names.{IsFileName, IsNumbered, name_of}

@@ -1,4 +1,4 @@
--- What a loss of power leaves of a later moment, and of an earlier one.
+-- What a power loss leaves of a later moment, and of an earlier one.
 use Rattle.std.proofs.Common.{◌≡◌, ◌≢◌, ◌⊎◌, inl, inr, ℕ, Bool, true, false, List, [], ◌∷◌, ◌++◌, length, Option, Some, None, is_some, cond, refl, sym, ap, subst, ◌∙◌, append-nil, append_assoc, arith}
 use Rattle.std.specs.FinMap.{get, remove, contains_key}
 use Rattle.std.specs.List.{AllByRecursion}
@@ -33,7 +33,7 @@ same_begins a b is = ([], is ∙ sym (append-nil b))
 pub begins_both : (a b c : List ℕ) → BeginsWith a b → BeginsWith b c → BeginsWith a c
 begins_both a b c h k = (k.0 ++ h.0, h.1 ∙ ap (λ (bytes : List ℕ). bytes ++ h.0) k.1 ∙ append_assoc c k.0 h.0)
 
--- so it is where the file is synced whole
+-- the same holds if the file is synced whole
 pub sound_kept : (facts : Facts) (q : List ℕ) → IsKept facts q → SyncsBeginning facts q
 sound_kept facts q kept held synced there is = (let both : Some held ≡ Some synced = sym (kept held there) ∙ is in let same : held ≡ synced = cc in same_begins held synced same)
 
@@ -53,7 +53,7 @@ sound_begun facts lost q begun there held synced was is =
 pub sound_left : (facts : Facts) (lost : Files) (q : List ℕ) → IsLost facts.files [] (disk_of facts) lost → contains_key lost q ≡ true → SyncsBeginning facts q
 sound_left facts lost q h there = sound_begun facts lost q (now_left facts lost q h).begun there
 
--- ---- one file in place of another
+-- ---- one file instead of another
 
 pub with_file_same : (files : Files) (name : List ℕ) (o : Option (List ℕ)) → get (with_file files name o) name ≡ o
 with_file_same files name o = get-with_file files name o name ∙ ap (λ (b : Bool). cond b o (get files name)) (itself name)
@@ -128,7 +128,7 @@ lost_each facts files each =
 pub whole_lost : (facts : Facts) → ((q : List ℕ) → SyncsBeginning facts q) → Lost facts (moment facts) facts.files
 whole_lost facts sound = lost_each facts facts.files (λ q. left_whole facts facts.files q refl (sound q))
 
--- with the file taken away that came since
+-- with the file removed that came since
 without : (a then : Facts) (name : List ℕ) (lost : Files) → contains_key a.files name ≡ false → ((q : List ℕ) → q ≢ name → get then.files q ≡ get a.files q) → ((q : List ℕ) → q ≢ name → then.synced q ≡ a.synced q)
     → ((q : List ℕ) → q ≢ name → ReadsLeft then lost q) → Lost a (moment a) (remove lost name)
 without a then name lost lacks files synced each = lost_each a (remove lost name) (λ q. elim (same_or_not q name) [
@@ -136,9 +136,9 @@ without a then name lost lacks files synced each = lost_each a (remove lost name
   | inr apart ↦ left_like a lost (remove lost name) q (gone_other lost name q apart) (left_on a then lost q (files q apart) (synced q apart) (each q apart))
 ])
 
--- ---- one new file is written, behind a sync
+-- ---- one new file is written, after a sync
 
--- With it taken away, what a loss leaves is what one left at the beginning.
+-- With it removed, what a loss leaves is what one left at the beginning.
 pub lost_written : (a b : Facts) (name : List ℕ) → behind_sync [] a.calls ≡ [] → contains_key a.files name ≡ false → OnlyIt a b name → (lost : Files) → Lost b (moment a) lost → Lost a (moment a) (remove lost name)
 lost_written a b name none lacks only =
     let mine : List ℕ → Type 0 = λ q. q ≡ name in
@@ -178,8 +178,8 @@ same_behind : (f g : List ℕ → Held) (o : Option (List ℕ)) (found : Held) �
 same_behind f g None found same = refl
 same_behind f g (Some q) found same = same q
 
--- of the calls in front it is the same, where each file that is there behind them holds last what
--- it holds there
+-- of the calls in front it is the same, where each file that is there after them holds last what it
+-- holds there
 held_front : (front after : List Call) (now then : Disk) → ((q : List ℕ) → held_last after now q ≡ (get then.files q, then.synced q)) → (q : List ℕ) → held_last (front ++ after) now q ≡ held_last front then q
 held_front [] after now then same q = same q
 held_front (call ∷ front) after now then same q =
@@ -199,14 +199,14 @@ lost_front at lost calls front now then same h = record {
   kept = λ q bytes synced there is. h.kept q bytes synced there (ap (λ (p : Held). p.1) (same q) ∙ is);
 }
 
--- The names as a call in front found them, or what is said of the calls behind.
+-- The names as an earlier call found them, or what is said of the later calls.
 since_front : (front after : List Call) (now then : Disk) (lost : Files) (rest : Type 0) → ((q : List ℕ) → held_last after now q ≡ (get then.files q, then.synced q))
     → (IsLostSince after now lost → IsLostSince [] then lost ⊎ rest) → IsLostSince (front ++ after) now lost → IsLostSince front then lost ⊎ rest
 since_front [] after now then lost rest same behind h = behind h
 since_front (call ∷ front) after now then lost rest same behind (inl h) = inl (inl (lost_front call.found.files lost (call ∷ front ++ after) (call ∷ front) now then (λ q. held_front (call ∷ front) after now then same q) h))
 since_front (call ∷ front) after now then lost rest same behind (inr h) = elim (since_front front after now then lost rest same behind h) [ inl before ↦ inl (inr before) | inr later ↦ inr later ]
 
--- ---- a file that is made, and what is written behind it
+-- ---- a file that is made, and what is written after it
 
 -- The call that makes it, and some that carry the names of the others.
 module _ (a : Facts) (name : List ℕ) where
@@ -216,7 +216,7 @@ module _ (a : Facts) (name : List ℕ) where
   goes_behind : (more : List Call) (now : Disk) (q : List ℕ) (o : Option (List ℕ)) → name_behind (Creation name) q ≡ o → held_last (making ∷ more) now q ≡ option_map_or (held_last more now) o (get a.files q, a.synced q)
   goes_behind more now q o is = ap (λ (p : Option (List ℕ)). option_map_or (held_last more now) p (get a.files q, a.synced q)) is
 
-  -- files of other names go on behind it
+  -- files of other names go on after it
   pub made_other : (more : List Call) (now : Disk) (q : List ℕ) → q ≢ name → IsCarriedBy more q → held_last (making ∷ more) now q ≡ (get now.files q, now.synced q)
   made_other more now q apart carried = goes_behind more now q (Some q) (unnamed_stays (Creation name) q apart) ∙ held_carried more now q carried
 
@@ -224,7 +224,7 @@ module _ (a : Facts) (name : List ℕ) where
   made_itself : (more : List Call) (now : Disk) (q : List ℕ) → q ≡ name → held_last (making ∷ more) now q ≡ (get a.files q, a.synced q)
   made_itself more now q is = goes_behind more now q None (ap (λ (b : Bool). cond b None (Some q)) (ap (λ (n : List ℕ). is_same n name) is ∙ itself name))
 
-  -- so that each held last what it holds in front of it
+  -- so that each held last what it holds before it
   made_held : (more : List Call) (now : Disk) → ((q : List ℕ) → q ≢ name → IsCarriedBy more q) → ((q : List ℕ) → q ≢ name → (get now.files q ≡ get a.files q) × (now.synced q ≡ a.synced q))
       → (q : List ℕ) → held_last (making ∷ more) now q ≡ (get a.files q, a.synced q)
   made_held more now carried same q = elim (same_or_not q name) [
@@ -236,7 +236,7 @@ module _ (a : Facts) (name : List ℕ) where
   pub made_files : (made : Facts) → Adds a made (Creation name) → (q : List ℕ) → q ≢ name → get made.files q ≡ get a.files q
   made_files made adds q apart = ap (λ (files : Files). get files q) adds.1 ∙ get_other a.files name [] q apart
 
--- behind it come calls that carry the names of the files that aren't mine
+-- after it come calls that carry the names of the files that aren't mine
 abbrev pub Each : Files → (List ℕ → Type 0) → List Call → Type 0
 Each files mine calls = AllByRecursion (λ (call : Call). (q : List ℕ) → (mine q → ⊥) → (name_behind call.change q ≡ Some q) × (contains_key call.found.files q ≡ contains_key files q)) calls
 
@@ -258,7 +258,7 @@ module _ (a made now : Facts) (name : List ℕ) (mine : List ℕ → Type 0) (ad
     | inr none ↦ inr (subst (λ (calls : List Call). IsLostSince calls (disk_of now) lost) (calls_behind ∙ none (behind_sync [] a.calls ++ making a name ∷ [])) h)
   ]
 
-  -- behind it each of the others is left under its name
+  -- after it each of the others is left under its name
   pub left_behind : (lost : Files) → IsLostSince (behind_sync [] c.more) (disk_of now) lost → (q : List ℕ) → (mine q → ⊥) → ReadsLeft now lost q
   left_behind lost h q apart =
       let first : Facts = record made { calls = [] } in
@@ -269,7 +269,7 @@ module _ (a made now : Facts) (name : List ℕ) (mine : List ℕ → Type 0) (ad
 
 -- ---- one new file is begun and written
 
--- at a moment behind its creation
+-- at a moment after its creation
 started_at : (a made now : Facts) (name : List ℕ) → contains_key a.files name ≡ false → Adds a made (Creation name) → ((q : List ℕ) → q ≢ name → made.synced q ≡ a.synced q) → KeepsAt made now (λ (q : List ℕ). q ≡ name)
     → (lost : Files) → IsLostSince (behind_sync [] now.calls) (disk_of now) lost → Lost a (moment a) lost ⊎ Lost a (moment a) (remove lost name)
 started_at a made now name lacks adds synced k lost h =
@@ -293,7 +293,7 @@ started_at a made now name lacks adds synced k lost h =
       | inr later ↦ inr (behind later)
     ]
 
--- it was so in front of it, the file taken away or not
+-- it was so before it, the file removed or not
 abbrev IsEarlier : Facts → List ℕ → Files → Type 0
 IsEarlier a name lost = Lost a (moment a) lost ⊎ Lost a (moment a) (remove lost name)
 
@@ -316,7 +316,7 @@ lost_started a b name lacks synced (inr starts) lost h =
     let here : LosesOnly made made P = started_behind a made made name lacks adds kept (others_same made made (λ (q : List ℕ). q ≡ name) refl refl refl) in
     loses_both a made b only.leaves.more P only.leaves.calls (loses_noted a made (Creation name) P (inr adds) (λ files earlier. inl earlier) here) (started_behind a made b name lacks adds kept only) lost h
 
--- ---- one empty file is made, behind a sync
+-- ---- one empty file is made, after a sync
 
 none_begins : (bytes : List ℕ) → BeginsWith [] bytes → bytes ≡ []
 none_begins [] h = refl
@@ -405,7 +405,7 @@ module _ (mid then : Facts) (temporary bytes other : List ℕ) (set : IsSet mid 
     ]
   ]
 
--- It is a loss in front of that, if the loss has the names of now.
+-- It is a loss before that, if the loss has the names of now.
 pub lost_set : (mid then : Facts) (temporary bytes other : List ℕ) → IsSet mid then temporary bytes → contains_key mid.files temporary ≡ false → SyncsBeginning mid (name_of Current) → (lost : Files)
     → IsLost then.files [] (disk_of then) lost → Lost mid (moment mid) (unset mid lost temporary other)
 lost_set mid then temporary bytes other set lacks sound lost h = lost_each mid (unset mid lost temporary other) (set_each mid then temporary bytes other set lacks sound lost h)

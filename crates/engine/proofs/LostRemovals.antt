@@ -1,5 +1,5 @@
--- What a loss of power leaves of files that nothing reads, while they are written or taken away:
--- what it left at the beginning.
+-- What a power loss leaves of files that nothing reads, while they are written or removed: what it
+-- left at the beginning.
 use Rattle.std.proofs.Common.{◌≡◌, ◌≢◌, ◌⊎◌, inl, inr, ℕ, false, List, [], ◌∷◌, ◌++◌, Some, None, is_some, refl, sym, ap, subst, ◌∙◌}
 use Rattle.std.specs.FinMap.{get, contains_key}
 use Rattle.std.specs.List.{AllByRecursion}
@@ -105,9 +105,9 @@ module _ (then : Facts) (log : List ℕ) (dead : List ℕ → Type 0) (reads : L
   taken_here : ((q : List ℕ) → (dead q → ⊥) → ReadsLeft then lost q) → IsTaken then log dead reads lost
   taken_here others = taken_by (λ q live apart. others q live) (lost_each then restored (λ q. restored_at q (others q)))
 
--- ---- behind a sync
+-- ---- after a sync
 
--- Behind it calls write files alone that nothing reads.
+-- After it calls write files alone that nothing reads.
 lost_removed_here : (then new : Facts) (log : List ℕ) (dead : List ℕ → Type 0) (reads : List (List ℕ)) → behind_sync [] then.calls ≡ [] → SyncsBeginnings then → WritesOnly then new dead → AllByRecursion (λ (q : List ℕ). dead q → ⊥) reads
     → (lost : Files) → Lost new (moment then) lost → IsTaken then log dead reads lost
 lost_removed_here then new log dead reads ends sound writes alive =
@@ -117,9 +117,9 @@ lost_removed_here then new log dead reads ends sound writes alive =
     taken_here then log dead reads sound alive lost (λ q live.
     left_on then now lost q (k.files q live) (k.synced q live) (reads_left now lost q (behind_sync [] now.calls) (stays_on then now dead q live k.carries (stays_behind then q ends)) (lost_here now lost at))))
 
--- ---- behind the creation of a log, which came behind a sync
+-- ---- after the creation of a log, which came after a sync
 
--- A log was made, which wasn't there, behind a sync and no other call.
+-- A log was made, which wasn't there, after a sync and no other call.
 pub record IsMadeAlone (last then : Facts) (log : List ℕ) : Type 0 where
   pub ends : behind_sync [] last.calls ≡ []
   pub lacks : contains_key last.files log ≡ false
@@ -159,7 +159,7 @@ module _ (last then : Facts) (log : List ℕ) (dead : List ℕ → Type 0) (read
       } in
       taken_by then log dead reads sound alive lost others (lost_now then kept_files (subst (λ (calls : List Call). IsLostSince calls (disk_of then) kept_files) (sym made_since) (inl found)))
 
-  -- at a moment behind it
+  -- at a moment after it
   taken_at : (now : Facts) → KeepsAt then now dead → IsLostSince (behind_sync [] now.calls) (disk_of now) lost → IsTaken then log dead reads lost
   taken_at now k h =
       let c = k.carries in
@@ -182,16 +182,16 @@ module _ (last then : Facts) (log : List ℕ) (dead : List ℕ → Type 0) (read
         | inr later ↦ behind later
       ]
 
--- Behind it calls write files alone that nothing reads.
+-- After it calls write files alone that nothing reads.
 lost_removed_made : (last then new : Facts) (log : List ℕ) (dead : List ℕ → Type 0) (reads : List (List ℕ)) → IsMadeAlone last then log → SyncsBeginnings then → WritesOnly then new dead → AllByRecursion (λ (q : List ℕ). dead q → ⊥) reads → IsAmong log reads
     → (lost : Files) → Lost new (moment then) lost → IsTaken then log dead reads lost
 lost_removed_made last then new log dead reads alone sound writes alive log_read =
     loses_at then new (IsTaken then log dead reads) (λ m least most lost at.
     taken_at last then log dead reads alone sound alive log_read lost (facts_at new m) (keeps_at then new dead m writes least) (lost_here (facts_at new m) lost at))
 
--- ---- behind either
+-- ---- after either
 
--- The last call was a sync, or made the log alone behind one.
+-- The last call was a sync, or made the log alone after one.
 abbrev pub EndsAfresh : Facts → List ℕ → Type 0
 EndsAfresh facts log = (behind_sync [] facts.calls ≡ []) ⊎ ((last : Facts) × IsMadeAlone last facts log)
 
@@ -200,7 +200,7 @@ pub lost_removed : (then new : Facts) (log : List ℕ) (dead : List ℕ → Type
 lost_removed then new log dead reads (inl ends) sound writes alive log_read = lost_removed_here then new log dead reads ends sound writes alive
 lost_removed then new log dead reads (inr log_made) sound writes alive log_read = lost_removed_made log_made.0 then new log dead reads log_made.1 sound writes alive log_read
 
--- ---- behind syncs of some files
+-- ---- after syncs of some files
 
 ends_each : (names : List (List ℕ)) (old new : Facts) → behind_sync [] old.calls ≡ [] → SyncsEach names old new → behind_sync [] new.calls ≡ []
 ends_each [] old new ends idle = ap (behind_sync []) idle.0 ∙ ends

@@ -1,4 +1,4 @@
--- That a compaction of all leaves what is needed: behind its first pieces, without tables, and
+-- That a compaction of all leaves what is needed: after its first pieces, without tables, and
 -- beside the machine's map.
 use Rattle.std.proofs.Common.{◌≡◌, ◌++◌, ℕ, Bool, true, false, List, [], ◌∷◌, Option, Some, None, IsSome, MatchOption, Result, Ok, Err, MatchBool, OnOk, cond, inl, inr, refl, sym, ap, subst, ◌∙◌, arith, append-nil}
 use Rattle.std.proofs.lemmas.Bool.{eq-eqb}
@@ -47,7 +47,7 @@ use Rattle.engine.proofs.Origins.{undamaged_serving}
 use Rattle.engine.proofs.Steps.{serving_of}
 use Rattle.engine.proofs.WorkSteps.{KeepsFlag, stands_whole}
 
--- ---- behind what came first
+-- ---- after what came first
 
 module _ {K : Type 0} {g : _} (order : Order) (old mid new : Seen) (before between after : OpenDb K g) {P Q : Machine → Machine → Type 0} where
   pub needed_behind : ((ids : Ids) → LeadsOpen order old mid ids before between P) → KeepsFlag P → ((ids : Ids) → LeadsOpen order mid new ids between after Q) → EndsNeeded order mid new between after → EndsNeeded order old new before after

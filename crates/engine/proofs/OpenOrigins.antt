@@ -1,4 +1,4 @@
--- Where the tables of a directory come from behind an open, and behind the lock's file.
+-- Where the tables of a directory come from after an open, and after the lock's file.
 use Rattle.std.proofs.Common.{◌≡◌, ◌⊎◌, ◌++◌, ℕ, Bool, true, false, List, [], ◌∷◌, Contains, length, Option, Some, None, is_some, inl, inr, refl, sym, ap, subst, ◌∙◌, arith}
 use Rattle.std.proofs.lemmas.Bool.{cases_eq}
 use Rattle.std.specs.FinMap.{get, insert}
@@ -53,10 +53,10 @@ same_length a b is = ap (λ (o : Option (List ℕ)). length (unwrap_or o [])) is
 same_number : {a b : ℕ} → OldTable a ≡ OldTable b → a ≡ b
 same_number e = cc
 
--- ---- a table that was read by its newer name isn't read by its older one behind an open
+-- ---- a table that was read by its newer name isn't read by its older one after an open
 
--- No open leaves a table that is read by its newer name without that file: with other bytes under
--- its older name, the directory would still be there before, but not behind it.
+-- No open leaves a table that is read by its newer name without that file. With other bytes under
+-- its older name, the directory would still be there before, but not after it.
 module _ (order : Order) (old new ideal : Files) (differs : DiffersInTables old ideal) (continued : OfEach (λ whole behind. IsContinued order whole behind) old new) (d : Directory) (good : IsConsistent order ideal d)
     (content : TableContent) (is : InTables d.tables content) where
   abbrev n : ℕ
@@ -118,7 +118,7 @@ module _ (order : Order) (old new ideal : Files) (differs : DiffersInTables old 
         let change = same_change old new whole differs_whole in
         no_longer change.0 change.1 ((continued whole change.0 differs_whole change.1).meaning d.tables (logged d.logs) (used_in d) (inr (d, free_change order ideal whole d agree good, refl, refl, refl)))
 
-  -- where it is read behind it
+  -- where it is read after it
   pub stays_newer : (after : Files) → IsSameChange old new ideal after → (x bytes : List ℕ) → get old newer ≡ Some x → get new newer ≡ None → get new older ≡ get old older → table_at after n ≡ Some bytes → ⊥
   stays_newer after change x bytes was gone kept there =
       let lost : get after newer ≡ None = change.changes newer (λ same. (let clash : None ≡ Some x = sym gone ∙ same ∙ was in cc)) ∙ gone in
@@ -227,14 +227,14 @@ was_there order b old ideal tables entries used from (inr there) placed is =
 
 module _ (order : Order) (b : Bool) (old new ideal after : Files) (tables : List TableContent) (entries : List Entry) (used : ℕ) (from : ComesFrom order b old ideal) (change : IsSameChange old new ideal after)
     (before : IsDirectoryOf order ideal tables entries used) (behind : IsDirectoryOf order after tables entries used) where
-  -- behind an open that left the files of tables alone
+  -- after an open that left the files of tables alone
   pub comes_open : ((n : ℕ) → IsNumbered n → (get new (name_of (Table n)) ≡ get old (name_of (Table n))) × (get new (name_of (OldTable n)) ≡ get old (name_of (OldTable n)))) → ComesFrom order b new after
   comes_open stays = comes_behind order b old new ideal after tables entries used from change behind (λ e again same placed is.
       let w = was_there order b old ideal tables entries used from before placed is in
       let both = stays placed.table.number w.numbered in
       origin_left order.cmp old new ideal after placed change.stays both.0 both.1 w.origin)
 
-  -- behind one that was refused, and had written
+  -- after one that was refused, and had written
   pub comes_refused : OfEach (λ whole left. IsContinued order whole left) old new → ComesFrom order b new after
   comes_refused continued = comes_behind order b old new ideal after tables entries used from change behind (λ e again same placed is.
       let w = was_there order b old ideal tables entries used from before placed is in

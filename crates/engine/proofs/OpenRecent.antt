@@ -1,4 +1,4 @@
--- What the logs have behind an open: of what is accepted since, nothing yet.
+-- What the logs have after an open: of what is accepted since, nothing yet.
 use Rattle.std.proofs.Common.{◌≡◌, ◌≢◌, ◌<◌, inl, inr, ℕ, ◌≤◌, true, false, List, [], ◌∷◌, ◌++◌, length, Some, refl, sym, ap, subst, ◌∙◌, arith}
 use Rattle.std.specs.FinMap.{get, contains_key}
 use Rattle.std.specs.List.{AllByRecursion}
@@ -70,7 +70,7 @@ module _ (order : Order) (facts : Facts) (after : Files) (log position least : �
       let number = logs.number in
       before n there.0 (λ same. omega (arith, less, number, same)) there.1
 
-  -- what is in front of the new log has sequence numbers that were used
+  -- what is before the new log has sequence numbers that were used
   front_used : AllUpTo m.used (tabled tables ++ logged logs.sealed)
   front_used e i = subst (λ (n : ℕ). e.sequence ≤ n) (sym used) (bounded e (elim (among_split (tabled tables) (logged logs.sealed) e i) [
     | inl table ↦ among_front (tabled tables) (logged_in memory) e table

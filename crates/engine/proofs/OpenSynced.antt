@@ -1,4 +1,4 @@
--- What is synced behind an open.
+-- What is synced after an open.
 use Rattle.std.proofs.Common.{◌≡◌, ◌<◌, ◌≤◌, ℕ, Bool, true, false, None, is_some, IsSome, List, [], ◌∷◌, ◌++◌, Contains, Some, Option, refl, sym, ap, subst, ◌∙◌, arith, string_bytes}
 use Rattle.std.specs.FinMap.{get, contains_key}
 use Rattle.std.specs.Option.{option_or}

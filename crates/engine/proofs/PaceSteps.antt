@@ -1,4 +1,4 @@
--- Pieces of work one behind the other.
+-- Pieces of work one after the other.
 use Rattle.std.proofs.Common.{◌≡◌, ◌⊎◌, ◌≤◌, ◌<◌, ◌*◌, ℕ, length, Option, Some, None, MatchOption, inl, inr, refl, sym, ap, ◌∙◌, arith}
 use Rattle.std.proofs.lemmas.Bool.{cases_lt}
 use Rattle.coding.specs.declared.error.DbError.{DbError}

@@ -76,7 +76,7 @@ module _ (b k : ℕ) (rest ks : Key) where
       at true = ap (λ (p : Ordering). is_lt (ordering_then p (slice_cmp nat_cmp ks []))) (less_is k (b + 1) (omega (arith, is)))
       at false = refl
 
-  -- a greater first byte is behind it
+  -- a greater first byte is after it
   behind_end : b < k → k < 256 → (end : Option Key) → SameBool (is_before_end (slice_cmp nat_cmp) (end_of b end) (k ∷ ks)) false
   behind_end above small (Some end) = ap (λ (p : Ordering). is_lt (ordering_then p (slice_cmp nat_cmp ks end))) (greater_is k b above)
   behind_end above small None = at (nat_lt b 255) refl

@@ -30,7 +30,7 @@ leads_as f h = record { faithful = h.faithful; moved = λ faithful m before. let
 pub leads_stay : {a : Facts} {P : Machine → Type 0} {M : Machine → Machine → Type 0} → ((m : Machine) → M m m) → Leads a a P P M
 leads_stay f = record { faithful = λ faithful. faithful; moved = λ faithful m before. (m, f m, before) }
 
--- one behind the other
+-- one after the other
 pub leads_then : {a b c : Facts} {P Q R : Machine → Type 0} {M N O : Machine → Machine → Type 0} → ((m n o : Machine) → M m n → N n o → O m o) → Leads a b P Q M → Leads b c Q R N → Leads a c P R O
 leads_then f first second = record {
   faithful = λ faithful. first.faithful (second.faithful faithful);

@@ -32,7 +32,7 @@ abbrev AllAbove : Cmp → List ℕ → List Pair → Type 0
 AllAbove cmp key pairs = AllByRecursion (λ (y : List ℕ). cmp key y ≡ Less) (keys_of pairs)
 
 module _ (cmp : Cmp) (total : IsTotalOrder cmp) where
-  -- what comes behind a key that isn't below another isn't either
+  -- what comes after a key that isn't below another isn't either
   not_below : (a b bound : List ℕ) → cmp a b ≡ Less → is_lt (cmp a bound) ≡ false → is_lt (cmp b bound) ≡ false
   not_below a b bound above is = at (is_lt (cmp b bound)) refl
     where
@@ -56,7 +56,7 @@ module _ (cmp : Cmp) (total : IsTotalOrder cmp) where
     abbrev kept : List Pair → List Pair
     kept pairs = pairs_within cmp keys pairs
 
-    -- behind a key that isn't in front of the end there are none
+    -- after a key that isn't before the end there are none
     none_behind : (key : List ℕ) (pairs : List Pair) → is_before_end cmp keys.to key ≡ false → AllAbove cmp key pairs → Pairs (kept pairs) []
     none_behind key [] is all = refl
     none_behind key (pair ∷ pairs) is all = at (is_from cmp keys.from pair.0) (is_before_end cmp keys.to pair.0) (behind_end keys.to key pair.0 all.0 is) (none_behind key pairs is all.1)
@@ -66,7 +66,7 @@ module _ (cmp : Cmp) (total : IsTotalOrder cmp) where
         at true false past rest = rest
         at false before past rest = rest
 
-    -- of what doesn't come before the range, those in front of its end
+    -- of what doesn't come before the range, those before its end
     front_is : (pairs : List Pair) → IsStrictlySortedBy cmp (keys_of pairs) → AllByRecursion (λ (p : Pair). is_from cmp keys.from p.0 ≡ true) pairs → Pairs (kept pairs) (up_to cmp keys.to pairs)
     unfolding IsStrictlySortedBy
     front_is [] sorted all = refl

@@ -17,7 +17,7 @@ use Rattle.engine.specs.declared.ranges.RangeWalk.{RangeWalk}
 use Rattle.engine.specs.Ranges.{Pair, Begins, Fills, HasLeft, OnlyWalks, RefusesFill, RefusesScan, Scans, Steps, pairs_within, walked}
 use Rattle.engine.proofs.RangeSteps.{only_same, refused_walk_same, served}
 
--- ---- one call behind the other
+-- ---- one call after the other
 
 pub only_then : (id : ℕ) (m n o : Machine) → OnlyWalks id m n → OnlyWalks id n o → OnlyWalks id m o
 only_then id m n o first second = (
@@ -27,7 +27,7 @@ only_then id m n o first second = (
 
 -- ---- several steps
 
--- so many came, and were put behind those that were there
+-- so many came, and were put after those that were there
 pub record HasFilled (order : Order) (count : ℕ) (m : Machine) (before : RangeWalk) (had : List Pair) (n : Machine) (after : RangeWalk) (has : List Pair) : Type 0 where
   pub gives : (rest : List Pair) → HasLeft order m before rest →
       (came left : List Pair) × (has ≡ had ++ came) × (rest ≡ came ++ left) × HasLeft order n after left × (length came ≡ count)

@@ -1,5 +1,5 @@
--- A record behind the last log is one batch more there, and a beginning of it none, or that one:
--- its bytes are read in one way.
+-- A record after the last log is one batch more there, and a beginning of it none, or that one: its
+-- bytes are read in one way.
 use Rattle.std.proofs.Common.{◌≡◌, ◌⊎◌, ℕ, List, [], ◌∷◌, ◌++◌, length, take, Some, inl, inr, sym, ap, subst, ◌∙◌}
 use Rattle.std.specs.FinMap.{get}
 use Rattle.batch.specs.Batch.{IsBatch}

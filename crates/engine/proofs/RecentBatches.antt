@@ -33,7 +33,7 @@ no_batches (log ∷ logs) h = ap (λ (bs : List Batch). bs ++ batches_in logs) h
 
 -- ---- parts
 
--- The batches in front are the first of the operations, those behind the others.
+-- The batches in front are the first of the operations, those after the others.
 pub record SplitLogged (used : ℕ) (front back : List Batch) (operations : List (List Operation)) : Type 0 where
   pub within : length front ≤ length operations
   pub first : AreLogged used front (take (length front) operations)
@@ -77,7 +77,7 @@ entries_below [] first e h = absurd h
 entries_below (operation ∷ operations) first e (inl is) = (let same : e.sequence ≡ first = ap (λ (x : Entry). x.sequence) is ∙ entry_sequence first operation in omega (arith, same))
 entries_below (operation ∷ operations) first e (inr h) = (let rest : e.sequence < (first + 1) + length operations = entries_below operations (first + 1) e h in omega (arith, rest))
 
--- the entries of such batches are above what was used in front of them
+-- the entries of such batches are above what was used before them
 pub logged_above : (used : ℕ) (batches : List Batch) (operations : List (List Operation)) → AreLogged used batches operations → (e : Entry) → Among (batch_entries batches) e → used < e.sequence
 logged_above used [] operations h e i = absurd i
 logged_above used (b ∷ batches) [] h e i = absurd h
@@ -86,7 +86,7 @@ logged_above used (b ∷ batches) (o ∷ operations) h e i = elim (among_split (
   | inr later ↦ (let rest : used + length o < e.sequence = logged_above (used + length o) batches operations h.2 e later in omega (arith, rest))
 ]
 
--- and none is above what is used behind them
+-- and none is above what is used after them
 pub logged_within : (used : ℕ) (batches : List Batch) (operations : List (List Operation)) → AreLogged used batches operations → AllUpTo (used + sum_by length operations) (batch_entries batches)
 logged_within used [] operations h e i = absurd i
 logged_within used (b ∷ batches) [] h e i = absurd h
@@ -102,7 +102,7 @@ logged_within used (b ∷ batches) (o ∷ operations) h e i =
 
 -- ---- views
 
--- entries behind those that a view sees may go
+-- entries after those that a view sees may go
 pub earlier_entries : (front more : List Entry) (sequence : ℕ) (map : Contents) → ((e : Entry) → Among more e → sequence < e.sequence) → IsView (front ++ more) sequence map → IsView front sequence map
 earlier_entries front more sequence map later view = record {
   found = λ e newest. view.found e (record {

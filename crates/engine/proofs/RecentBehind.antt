@@ -1,4 +1,4 @@
--- What the logs that were begun have behind a write.
+-- What the logs that were begun have after a write.
 use Rattle.std.proofs.Common.{◌≡◌, ◌<◌, ◌≤◌, ◌+◌, ℕ, Bool, true, false, if◌then◌else◌, List, [], ◌∷◌, ◌++◌, length, inl, inr, sym, ap, subst, ◌∙◌, arith, append_assoc}
 use Rattle.std.specs.List.{AllByRecursion}
 use Rattle.batch.specs.declared.operation.Operation.{Operation}
@@ -51,7 +51,7 @@ syncs_extended false old new name d e more x named has same = subst (λ (q : Lis
 
 -- ---- what they have
 
--- The logs in front of the last one were synced whole for it.
+-- The logs before the last one were synced whole for it.
 pub recent_behind : (sync : Bool) (order : Order) (old new : Facts) (files : Files) (state : DirectoryState) (contents : List TableContent) (inserts later : List Entry) (d e : Directory) (used : ℕ) (m n : Machine) (operations : List Operation) (x : IsExtended d e (entries_of (used + 1) operations))
     → IsConsistent order files d → d.layout.log_number ≡ state.first_log → d.layout.previous_log_number ≡ state.previous_log → AreRecent old state.manifest.number contents (tabled contents ++ inserts) d.logs m → later ≡ inserts ++ entries_of (used + 1) operations
     → x.next.batches ≡ x.last.batches ++ (used + 1, operations) ∷ [] → ((k : ℕ) → IsNumbered k → IsLogRead state k → k < x.last.number → IsKept new (name_of (Log k))) → m.used ≡ used → AllUpTo used (tabled contents ++ inserts)

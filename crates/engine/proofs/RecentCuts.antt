@@ -1,5 +1,5 @@
--- What a loss of power leaves of the batches in logs: all of those in logs that are synced whole,
--- and the first of the others.
+-- What a power loss leaves of the batches in logs: all of those in logs that are synced whole, and
+-- the first of the others.
 use Rattle.std.proofs.Common.{◌≡◌, ◌⊎◌, inl, inr, ℕ, ◌+◌, ◌<◌, List, [], ◌∷◌, ◌++◌, length, length-append, Some, None, true, is_some, refl, sym, ap, subst, ◌∙◌, arith, append_assoc, append-nil}
 use Rattle.std.proofs.lemmas.List.{nil_from_length}
 use Rattle.std.specs.FinMap.{get, contains_key}
@@ -46,7 +46,7 @@ module _ (facts : Facts) (lost : Files) where
       let above : whole.number < whole.number = in_above whole.number cuts whole.number rising (all (ap is_some (same ∙ has.there))) in
       absurd (omega (arith, above))
 
-  -- The cuts of logs that are left, and of others behind them.
+  -- The cuts of logs that are left, and of others after them.
   pub record LeftFront (wholes rest cuts : List LogContent) : Type 0 where
     pub behind : List LogContent
     pub batches : batches_in cuts ≡ batches_in wholes ++ batches_in behind

@@ -1,4 +1,4 @@
--- What the logs that were begun have behind a flush.
+-- What the logs that were begun have after a flush.
 use Rattle.std.proofs.Common.{◌≡◌, inl, inr, ℕ, ◌+◌, ◌-◌, ◌≤◌, List, [], ◌∷◌, ◌++◌, length, take, drop, sum_by, refl, sym, ap, subst, ◌∙◌, arith}
 use Rattle.std.proofs.lemmas.List.{drop-drop, drop-take, length-drop, take-take}
 use Rattle.std.proofs.lemmas.List.Sums.{sum_by-take-drop}
@@ -101,7 +101,7 @@ module _ (old new : Facts) (least : ℕ) (tables after : List TableContent) (ent
   sure_now = sure_same old new (h.from + count) [] (current ∷ []) m.synced (λ n i. subst (λ (k : ℕ). new.synced (name_of (Log k)) ≡ old.synced (name_of (Log k))) (sym (only current n i)) synced)
       (sure_flushed old h.from p.kept p.doubted behind.since current m.synced behind.rest p.some h.sure)
 
-  -- the table has the entries of the logs in front of the current one, which is the only one then
+  -- the table has the entries of the logs before the current one, which is the only one then
   pub recent_flushed : AreRecent new least after more (current ∷ []) m
   recent_flushed = record {
     parts = record { found = []; kept = []; doubted = current ∷ []; all = refl; before = tt; synced = tt; empty = tt; some = omega arith };

@@ -1,4 +1,4 @@
--- What the logs that were begun have behind the end of a compaction.
+-- What the logs that were begun have after the end of a compaction.
 use Rattle.std.proofs.Common.{◌≡◌, inl, inr, ℕ, ◌+◌, ◌<◌, ◌≤◌, Bool, List, Contains, [], ◌∷◌, ◌++◌, length, take, drop, map, sum_by, ap, arith}
 use Rattle.std.proofs.lemmas.Bool.{cases_lt}
 use Rattle.compact.proofs.Keeping.{keeps_views}
@@ -84,7 +84,8 @@ module _ (xs others : List Entry) (low high : ℕ) (contents : Contents) (order 
   }
 
 -- A reader at a sequence number that is above all that is compacted sees the same, whether or not
--- the sequence number is one for which it was begun: one of these is above all of it, too.
+-- the compaction was begun for that sequence number. One of those for which it was begun is above
+-- all of it, too.
 pub seen_above : (entries needed others : List Entry) (sequences : List ℕ) (deep : List ℕ → Bool) (p reach : ℕ) (contents : Contents) → AreNeeded entries sequences deep needed → AreNewerOrDeep entries others deep
     → Contains sequences reach → AllUpTo reach entries → AllUpTo p entries → IsView (entries ++ others) p contents → IsView (needed ++ others) p contents
 seen_above entries needed others sequences deep p reach contents are apart kept above bounded view =

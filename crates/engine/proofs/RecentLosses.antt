@@ -1,4 +1,4 @@
--- From logs that may be cut to the map behind some first accepted batches.
+-- From logs that may be cut to the map after some first accepted batches.
 use Rattle.std.proofs.Common.{◌≡◌, ◌⊎◌, inl, inr, ℕ, ◌+◌, ◌<◌, ◌≤◌, List, [], ◌∷◌, ◌++◌, length, take, drop, sum_by, refl, sym, ap, subst, ◌∙◌, arith, append_assoc}
 use Rattle.std.specs.FinMap.{get}
 use Rattle.std.specs.List.{AllByRecursion}
@@ -25,7 +25,7 @@ use Rattle.engine.proofs.Tabled.{directory_bounded}
 use Rattle.engine.specs.Headline.{Holds}
 use Rattle.engine.specs.internal.Recent.{AreLogged, AreRecent, batches_in}
 
--- the logs that the open found are left, or were synced whole, as those behind them were
+-- the logs that the open found are left, or were synced whole, as those after them were
 found_left : (facts : Facts) (lost : Files) (least : ℕ) (logs : List LogContent) → HasLogs facts.files logs → AllByRecursion (λ (log : LogContent). log.number < least) logs
     → ((n : ℕ) → IsNumbered n → InLogs logs n → n < least → IsKept facts (name_of (Log n)) ⊎ (get lost (name_of (Log n)) ≡ get facts.files (name_of (Log n)))) → AllByRecursion (IsLeft facts lost) logs
 found_left facts lost least [] has before same = tt
@@ -70,7 +70,7 @@ some_in : (logs : List LogContent) → 0 < length logs → (k : ℕ) × InLogs l
 some_in [] some = absurd (omega (arith, some))
 some_in (log ∷ logs) some = (log.number, inl refl)
 
--- a log with others behind it isn't the last one
+-- a log with others after it isn't the last one
 pub in_front_of_last : (low : ℕ) (logs front behind sealed : List LogContent) (last : LogContent) (n : ℕ) → NumbersRise low logs → logs ≡ front ++ behind → logs ≡ sealed ++ last ∷ [] → 0 < length behind → InLogs front n → n < last.number
 in_front_of_last low logs front behind sealed last n r parts ends some i =
     let other = some_in behind some in
@@ -163,8 +163,8 @@ module _ (order : Order) (facts : Facts) (lost : Files) (least : ℕ) (tables : 
         ]
   ]
 
-  -- at the sequence number of the last batch that is left the map is seen, and so it is at any
-  -- other that is above all that is left
+  -- at the sequence number of the last batch that is left the map is seen, and the same holds at
+  -- any other that is above all that is left
   view_then : entries ≡ tabled tables ++ logged d.logs → IsView (tabled tables ++ logged logs) reached map_then
   view_then are =
       earlier_entries (tabled tables ++ logged logs) (batch_entries gone.0) reached map_then (λ e i. logged_above reached gone.0 (drop (length remaining) operations) s.second e i)

@@ -1,4 +1,4 @@
--- How many of the accepted batches are left whatever a loss of power takes.
+-- How many of the accepted batches are left whatever a power loss takes.
 use Rattle.std.proofs.Common.{◌≡◌, ◌⊎◌, inl, inr, ℕ, ◌+◌, ◌<◌, ◌≤◌, Bool, true, false, if◌then◌else◌, List, [], ◌∷◌, ◌++◌, length, length-append, Some, None, refl, sym, ap, subst, ◌∙◌, arith, append-nil}
 use Rattle.edits.specs.Names.{name_of}
 use Rattle.edits.specs.declared.names.FileName.TheVariants.{Log}
@@ -41,7 +41,7 @@ sure_left facts from kept doubted cuts count h c =
 
 -- ---- what keeps them
 
--- what is in front of these logs
+-- what is before these logs
 pub sure_front : (facts : Facts) (from : ℕ) (kept doubted : List LogContent) (count : ℕ) → count ≤ from → AreSure facts from kept doubted count
 sure_front facts from kept doubted count le = record { others = 0; synced = none_synced facts doubted; within = omega (arith, le) }
 
@@ -67,7 +67,7 @@ synced_same old new (log ∷ logs) count same (inr s) = inr (s.0, s.1, s.2, same
 pub sure_same : (old new : Facts) (from : ℕ) (kept doubted : List LogContent) (count : ℕ) → ((n : ℕ) → InLogs doubted n → new.synced (name_of (Log n)) ≡ old.synced (name_of (Log n))) → AreSure old from kept doubted count → AreSure new from kept doubted count
 sure_same old new from kept doubted count same h = record { others = h.others; synced = synced_same old new doubted h.others same h.synced; within = h.within }
 
--- one more log behind them
+-- one more log after them
 pub sure_sealed : (facts : Facts) (from : ℕ) (kept doubted : List LogContent) (log : LogContent) (count : ℕ) → AreSure facts from kept doubted count → AreSure facts from kept (doubted ++ log ∷ []) count
 sure_sealed facts from kept [] log count h = record { others = h.others; synced = inl h.synced; within = h.within }
 sure_sealed facts from kept (first ∷ doubted) log count h = record { others = h.others; synced = h.synced; within = h.within }
@@ -81,7 +81,7 @@ synced_within facts [] count none = omega (arith, none)
 synced_within facts (log ∷ logs) count (inl none) = omega (arith, none)
 synced_within facts (log ∷ logs) count (inr s) = (let sum = length_in log logs in let within : count ≤ length log.batches = s.6 in omega (arith, sum, within))
 
--- the first of them is the last, or stands in front of it
+-- the first of them is the last, or stands before it
 first_or_last : (kept doubted since : List LogContent) (last : LogContent) → kept ++ doubted ≡ since ++ last ∷ [] → 0 < length doubted
     → ((since ≡ kept) × (doubted ≡ last ∷ [])) ⊎ ((between : List LogContent) × (0 < length between) × (since ≡ kept ++ between) × (doubted ≡ between ++ last ∷ []))
 first_or_last [] [] since last is some = absurd (omega (arith, some))
@@ -103,8 +103,8 @@ front_synced facts [] last count some h = absurd (omega (arith, some))
 front_synced facts (first ∷ between) last count some (inl none) = omega (arith, none)
 front_synced facts (first ∷ between) last count some (inr s) = (let sum = length_in first between in let within : count ≤ length first.batches = s.6 in omega (arith, sum, within))
 
--- Those in front of the last are synced whole, and of the last one nothing less is synced than was;
--- it has no batch less.
+-- Those before the last are synced whole, and of the last one nothing less is synced than was; it
+-- has no batch less.
 sure_written : (old new : Facts) (from : ℕ) (kept doubted since : List LogContent) (last more : LogContent) (count : ℕ) → kept ++ doubted ≡ since ++ last ∷ [] → 0 < length doubted → more.number ≡ last.number
     → length last.batches ≤ length more.batches → new.synced (name_of (Log last.number)) ≡ old.synced (name_of (Log last.number)) → AreSure old from kept doubted count → AreSure new from since (more ∷ []) count
 sure_written old new from kept doubted since last more count parts some number longer same h = elim (first_or_last kept doubted since last parts some) [
@@ -136,19 +136,19 @@ abbrev pub SyncsLast : Bool → Facts → Facts → List ℕ → Type 0
 SyncsLast true old new name = IsSynced new name
 SyncsLast false old new name = new.synced name ≡ old.synced name
 
--- So it is of the log that a batch was put behind, which has more then.
+-- The same holds of the log to which a batch was appended, which has more then.
 abbrev pub SyncsMore : Bool → Facts → Facts → LogContent → LogContent → Type 0
 SyncsMore true old new last more = HasLog new.files more × IsKept new (name_of (Log more.number))
 SyncsMore false old new last more = new.synced (name_of (Log last.number)) ≡ old.synced (name_of (Log last.number))
 
--- So many are sure behind a write: with sync all that there are then.
+-- So many are sure after a write: with sync all that there are then.
 pub sure_behind : (sync : Bool) (old new : Facts) (from : ℕ) (kept doubted since : List LogContent) (last more : LogContent) (count all now : ℕ) → kept ++ doubted ≡ since ++ last ∷ [] → 0 < length doubted → more.number ≡ last.number
     → length last.batches ≤ length more.batches → from + length (batches_in (since ++ more ∷ [])) ≡ all → now ≡ (if sync then all else count) → SyncsMore sync old new last more → AreSure old from kept doubted count → AreSure new from since (more ∷ []) now
 sure_behind true old new from kept doubted since last more count all now parts some number longer whole is syncs h = subst (AreSure new from since (more ∷ [])) (whole ∙ sym is) (sure_synced new from since more syncs.0 syncs.1)
 sure_behind false old new from kept doubted since last more count all now parts some number longer whole is same h =
     subst (AreSure new from since (more ∷ [])) (sym is) (sure_written old new from kept doubted since last more count parts some number longer same h)
 
--- Those in front of the last lie in a table.
+-- Those before the last lie in a table.
 pub sure_flushed : (facts : Facts) (from : ℕ) (kept doubted since : List LogContent) (last : LogContent) (count : ℕ) → kept ++ doubted ≡ since ++ last ∷ [] → 0 < length doubted → AreSure facts from kept doubted count
     → AreSure facts (from + length (batches_in since)) [] (last ∷ []) count
 sure_flushed facts from kept doubted since last count parts some h = elim (first_or_last kept doubted since last parts some) [

@@ -1,4 +1,4 @@
--- What the logs that were begun have behind an open, a write, a new log, and calls that leave them
+-- What the logs that were begun have after an open, a write, a new log, and calls that leave them
 -- alone.
 use Rattle.std.proofs.Common.{◌≡◌, inl, inr, ℕ, ◌+◌, ◌-◌, ◌<◌, ◌≤◌, Bool, false, if◌then◌else◌, List, [], ◌∷◌, ◌++◌, length, length-append, take, drop, sum_by, refl, sym, ap, subst, ◌∙◌, arith, append_assoc, append-nil}
 use Rattle.std.proofs.lemmas.Bool.{cases_lt}
@@ -40,8 +40,8 @@ all_pushed : {X : Type 0} (P : X → Type 0) (xs : List X) (x : X) → AllByRecu
 all_pushed P [] x h p = (p, tt)
 all_pushed P (y ∷ xs) x h p = (h.0, all_pushed P xs x h.1 p)
 
--- The last of the logs is one of the others, where there are any: those that were found lie in
--- front of it.
+-- The last of the logs is one of the others, where there are any: those that were found lie before
+-- it.
 pub record BehindFound (front found others : List LogContent) (last : LogContent) : Type 0 where
   pub since : List LogContent
   pub in_front : front ≡ found ++ since
@@ -125,7 +125,7 @@ none_taken n k bs is =
     let all : take k bs ≡ [] = take_all k bs (let short : length bs ≡ 0 = ap length is in omega (arith, short)) ∙ is in
     ap (λ (os : List (List Operation)). n + sum_by length os) all ∙ (let more : n + 0 ≡ n = omega arith in more)
 
--- behind it all that was accepted lies in front of the new log, which is empty
+-- after it all that was accepted lies before the new log, which is empty
 pub recent_opened : (facts : Facts) (least : ℕ) (tables : List TableContent) (entries : List Entry) (found : List LogContent) (log : LogContent) (m : Machine) → AllByRecursion (λ (other : LogContent). other.number < least) found → log.batches ≡ []
     → AllUpTo m.used (tabled tables ++ logged found) → IsView entries m.used (current m) → m.synced ≤ length m.batches → AreRecent facts least tables entries (found ++ log ∷ []) m
 recent_opened facts least tables entries found log m before empty below view reached =
@@ -189,7 +189,7 @@ pushed : (map : Contents) (batches : List (List Operation)) (batch : List Operat
 pushed map [] batch = refl
 pushed map (first ∷ batches) batch = pushed (after_batch map first) batches batch
 
--- the map of now is that behind the last of them
+-- the map of now is that after the last of them
 pub recent_now : (facts : Facts) (least : ℕ) (tables : List TableContent) (entries : List Entry) (logs : List LogContent) (m : Machine) → AreRecent facts least tables entries logs m → IsView entries m.used (current m)
 recent_now facts least tables entries logs m h =
     let operations = drop h.from m.batches in
@@ -242,7 +242,7 @@ module _ (sync : Bool) (old new : Facts) (least : ℕ) (tables : List TableConte
       let was : h.start + sum_by length before ≡ m.used = h.spent in
       omega (arith, sum, one, was, used)
 
-  -- behind a batch that was there
+  -- after a batch that was there
   past_on : (k : ℕ) → k ≤ length before → IsView (entries ++ entries_of (m.used + 1) operations) (h.start + sum_by length (take k after)) (view_at n (h.from + k))
   past_on k le =
       let same : take k after ≡ take k before = ap (take k) one_more ∙ take-append-le k before (operations ∷ []) le in
@@ -256,7 +256,7 @@ module _ (sync : Bool) (old new : Facts) (least : ℕ) (tables : List TableConte
       (subst (λ (c : Contents). IsView (entries ++ entries_of (m.used + 1) operations) (h.start + sum_by length (take k before)) c) map_same
       (later_entries entries (entries_of (m.used + 1) operations) (h.start + sum_by length (take k before)) (view_at m (h.from + k)) (λ e i. (let above : m.used + 1 ≤ e.sequence = entries_from operations (m.used + 1) e i in omega (arith, above, least_used))) (h.past k le)))
 
-  -- and behind the new one
+  -- and after the new one
   now : IsView (entries ++ entries_of (m.used + 1) operations) n.used (current n)
   now =
       let view = (view_batch operations entries m.used (current m) (recent_now old least tables entries (front ++ last ∷ []) m h) bounded).0 in
@@ -280,7 +280,7 @@ module _ (sync : Bool) (old new : Facts) (least : ℕ) (tables : List TableConte
   longer : length n.batches ≡ length m.batches + 1
   longer = ap length batches ∙ length-append m.batches (operations ∷ [])
 
-  -- with sync the device has all that was accepted
+  -- with sync all that was accepted is durable
   all_there : h.from + length (batches_in (behind.since ++ more ∷ [])) ≡ length m.batches + 1
   all_there =
       let many = logged_length h.start (batches_in (behind.since ++ more ∷ [])) after are_logged in

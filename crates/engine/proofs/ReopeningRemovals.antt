@@ -1,5 +1,5 @@
--- What a loss of power leaves while an open that was accepted removes the files that aren't live:
--- what it left in front of the open.
+-- What a power loss leaves while an open that succeeded removes the obsolete files: what it left
+-- before the open.
 use Rattle.std.proofs.Common.{◌≡◌, ◌≢◌, ◌⊎◌, ◌<◌, ◌≤◌, ◌+◌, ◌++◌, ◌∷◌, ℕ, Bool, false, true, IsTrue, List, [], Option, Some, None, if◌then◌else◌, is_some, map, string_bytes, inl, inr, refl, sym, ap, subst, ◌∙◌, arith, append-nil, append_assoc}
 use Rattle.std.specs.FinMap.{contains_key, get}
 use Rattle.std.specs.List.{AllByRecursion}
@@ -254,7 +254,7 @@ module _ (order : Order) (made : Facts) (dead : List ℕ → Type 0) (d : Direct
 
 -- ---- all that the open wrote
 
--- some calls behind others
+-- some calls after others
 abbrev GoesTo : Facts → Facts → Type 0
 GoesTo a b = (more : List Call) × (b.calls ≡ a.calls ++ more)
 
@@ -295,7 +295,7 @@ module _ (old made : Facts) (k : ℕ) (content current : List ℕ) (numbered : I
       ap is_some (left_last new_log (files_apart (Log (k + 1)) (Manifest k) next numbered (λ e. cc)) (files_apart (Log (k + 1)) (Temporary k) next numbered (λ e. cc)) (files_apart (Log (k + 1)) Current next tt (λ e. cc))).0
       ∙ lacks
 
-  -- the log was made alone behind the sync of `CURRENT`
+  -- the log was made alone after the sync of `CURRENT`
   alone : IsMadeAlone last made new_log
   alone = record { ends = behind_added third last (name_of Current) all.3.4.0; lacks = lacks_all; adds = all.5 }
 
@@ -337,7 +337,7 @@ module _ (order : Order) (old made : Facts) (log : CurrentLog) (state : Director
   whole_afresh =
       subst (λ (n : ℕ). EndsAfresh made (name_of (Log n))) (sym whole.log_number) (inr (all.1, alone old made k content current numbered next lacks all))
 
--- ---- and the syncs behind it
+-- ---- and the syncs after it
 
 each_calls : (names : List (List ℕ)) (old new : Facts) → SyncsEach names old new → GoesTo old new
 each_calls [] old new idle = ([], idle.0 ∙ sym (append-nil old.calls))
@@ -399,7 +399,7 @@ module _ {K : Type 0} {g : _} (order : Order) (old : Facts) (kept : Seen) (db : 
             (λ i num below. (stays_or_goes (name_of (Table i)), stays_or_goes (name_of (OldTable i)), stays_or_goes (name_of (Log i)))) first.1,
       )
 
--- From each state without damage that the directory may be in, with syncs in front of it.
+-- From each state without damage that the directory may be in, with syncs before it.
 pub opened_on : {K : Type 0} {g : _} (order : Order) (old : Facts) (mid kept new : Seen) (db cleared after : OpenDb K g) (mode : Mode) → (IsTrue new.facts.faithful → IsTrue kept.facts.faithful) → (IsTrue kept.facts.faithful → IsTrue mid.facts.faithful)
     → ((ids : Ids) → Leads old kept.facts (Rests order old ids) (StandsOpen order kept ids cleared) (λ m n. Opens m mode Done n)) → (IsTrue kept.facts.faithful → LosesOn order old kept.facts)
     → SyncsBeginnings kept.facts → (IsTrue mid.facts.faithful → RenewsWhole order old mid.facts db.log db.directory) → (IsTrue kept.facts.faithful → (done : List (List ℕ)) × SyncsEach done mid.facts kept.facts)

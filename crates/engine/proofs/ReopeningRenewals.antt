@@ -1,5 +1,5 @@
--- What a loss of power leaves in the middle of an open, call by call, while it renews the
--- directory: what it left in front of the open.
+-- What a power loss leaves in the middle of an open, call by call, while it renews the directory:
+-- what it left before the open.
 use Rattle.std.proofs.Common.{◌≡◌, ◌≢◌, ◌<◌, ◌≤◌, ◌+◌, ◌++◌, ◌∷◌, ℕ, false, true, List, [], Option, Some, None, is_some, string_bytes, inl, inr, refl, sym, ap, subst, ◌∙◌, arith, append_assoc}
 use Rattle.std.specs.FinMap.{contains_key, get, remove}
 use Rattle.directory_writes.proofs.StoreCalls.{behind_added}
@@ -31,7 +31,7 @@ use Rattle.engine.proofs.ReopeningSteps.{left_stays, on_idle, stays_still, stays
 use Rattle.engine.specs.Losses.{HoldsFirst, SparesBelow}
 use Rattle.engine.specs.Reopening.{LeavesFirst, LosesOn, StaysFound, StaysOrGoes}
 
--- Behind a sync a loss has the names of now.
+-- After a sync a loss has the names of now.
 pub named_now : (facts : Facts) (lost : Files) → behind_sync [] facts.calls ≡ [] → Lost facts (moment facts) lost → IsLost facts.files [] (disk_of facts) lost
 named_now facts lost ends h = subst (λ (calls : List Call). IsLostSince calls (disk_of facts) lost) ends (lost_here facts lost h)
 
@@ -241,8 +241,7 @@ module _ (order : Order) (since : Facts) (bound : ℕ) (m : Machine) (old : Fact
         let q = files_apart file (Manifest k) is numbered apart in
         (wrote.only.leaves.now (name_of file) q, wrote.only.synced (name_of file) q)
 
-    -- The file of the MANIFEST that `CURRENT` names in front of that, or `CURRENT`, where there is
-    -- none.
+    -- The file of the MANIFEST that `CURRENT` names before that, or `CURRENT`, where there is none.
     record IsRead : Type 0 where
       file : FileName
       numbered_file : IsFileName file
@@ -297,7 +296,7 @@ module _ (order : Order) (since : Facts) (bound : ℕ) (m : Machine) (old : Fact
       lost_manifest : (lost : Files) → IsLost then.files [] (disk_of then) lost → get lost manifest ≡ Some content
       lost_manifest lost h = whole_now then lost manifest content h (manifest_set.0 ∙ wrote.there) (manifest_set.1 ∙ wrote.kept)
 
-      -- one of these is what a loss left in front of it
+      -- one of these is what a loss left before it
       module _ (lost : Files) (h : IsLost then.files [] (disk_of then) lost) where
         abbrev other_name : List ℕ
         other_name = name_of read.file
@@ -357,7 +356,7 @@ module _ (order : Order) (since : Facts) (bound : ℕ) (m : Machine) (old : Fact
           goes_through : (q : List ℕ) → StaysOrGoes since mid q → StaysOrGoes mid then q → StaysOrGoes since then q
           goes_through q was left = goes_on since mid then q was left
 
-      -- ---- the new log is made, behind the sync of `CURRENT`
+      -- ---- the new log is made, after the sync of `CURRENT`
 
       module _ (ends : behind_sync [] then.calls ≡ []) (behind : LosesOnly then then P) where
         no_log : contains_key then.files log ≡ false

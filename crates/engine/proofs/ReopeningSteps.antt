@@ -1,4 +1,4 @@
--- What a loss of power leaves behind each call of an open: what it left in front of it.
+-- What a power loss leaves after each call of an open: what it left before it.
 use Rattle.std.proofs.Common.{◌≡◌, ◌⊎◌, ◌++◌, ◌∷◌, ℕ, Bool, List, [], Option, Some, None, IsSome, if◌then◌else◌, inl, inr, refl, sym, ap, subst, ◌∙◌, append_assoc, append-nil}
 use Rattle.std.specs.FinMap.{get, insert}
 use Rattle.std.specs.Option.{option_map_or}
@@ -33,7 +33,7 @@ whole_spares since now bound stays n num below =
     at q (inl gone) = inr (λ bytes there. inl gone)
     at q (inr same) = inr (λ bytes there. inr (same.0 ∙ there))
 
--- So they hold the first of the batches.
+-- So they hold a prefix of the batches.
 pub whole_first : (order : Order) (since old : Facts) (bound : ℕ) (m : Machine) → SyncsBeginnings old → StaysFound since old bound → LosesOnly old old (LeavesFirst order since bound m) → HoldsFirst order old.files m
 whole_first order since old bound m sound stays here = here old.files (whole_lost old sound) (whole_spares since old bound stays.each)
 
@@ -58,7 +58,7 @@ stays_still since old new bound files synced h =
     let same : (q : List ℕ) → StaysOrGoes old new q = λ q. left_stays old new q (ap (λ (fs : Files). get fs q) files, ap (λ (s : Synced). s q) synced) in
     stays_through since old new bound (ap (λ (fs : Files). get fs (name_of Current)) files) (λ n num below. (same (name_of (Table n)), same (name_of (OldTable n)), same (name_of (Log n)))) h
 
--- ---- one call behind another
+-- ---- one call after another
 
 pub on_behind : (order : Order) (a b c : Facts) (first more : List Call) → b.calls ≡ a.calls ++ first → c.calls ≡ b.calls ++ more → LosesOn order a b → LosesOn order b c → LosesOn order a c
 on_behind order a b c first more began goes h k since bound m stays here =
@@ -78,7 +78,7 @@ on_here order facts = on_still order facts facts refl refl refl
 pub on_idle : (order : Order) (old new : Facts) → Idles old new → LosesOn order old new
 on_idle order old new idle = on_still order old new idle.0 (ap (λ (disk : Disk). disk.files) idle.1) (ap (λ (disk : Disk). disk.synced) idle.1)
 
--- with calls behind that change nothing
+-- with calls after that change nothing
 pub on_read : (order : Order) (old new last : Facts) (more : List Call) → new.calls ≡ old.calls ++ more → LosesOn order old new → last.calls ≡ new.calls → last.files ≡ new.files → last.synced ≡ new.synced → LosesOn order old last
 on_read order old new last more goes h calls files synced since bound m stays here =
     let one = h since bound m stays here in
@@ -111,7 +111,7 @@ locked_since disk [] lost (inr h) = h
 locked_since disk (call ∷ calls) lost (inl h) = inl (locked_is disk (call ∷ calls) call.found.files lost h)
 locked_since disk (call ∷ calls) lost (inr later) = inr (locked_since disk calls lost later)
 
--- A loss behind that call is one in front of it.
+-- A loss after that call is one before it.
 pub lost_locked : (old mid : Facts) (lost : Files) → mid.calls ≡ old.calls ++ lock_call (disk_of old) ∷ [] → disk_of mid ≡ disk_of old → Lost mid (moment mid) lost → Lost old (moment old) lost
 lost_locked old mid lost calls disk h =
     let all : behind_sync [] mid.calls ≡ behind_sync [] old.calls ++ lock_call (disk_of old) ∷ [] = ap (behind_sync []) calls ∙ behind_more [] old.calls (lock_call (disk_of old) ∷ []) in
@@ -137,13 +137,13 @@ pub lock_calls : (old mid : Facts) → Idles old mid ⊎ Adds old mid LockFile �
 lock_calls old mid (inl idle) = ([], idle.0 ∙ sym (append-nil old.calls))
 lock_calls old mid (inr adds) = (lock_call (disk_of old) ∷ [], adds.0)
 
--- and what is done behind it
+-- and what is done after it
 pub on_lock : (order : Order) (old mid new : Facts) (more : List Call) → IsSome (get old.files lock_name) → mid.synced ≡ old.synced → Idles old mid ⊎ Adds old mid LockFile → new.calls ≡ mid.calls ++ more → LosesOn order mid new → LosesOn order old new
 on_lock order old mid new more there synced noted goes h =
     let first = lock_calls old mid noted in
     on_behind order old mid new first.0 more first.1 goes (on_locked order old mid there synced noted) h
 
--- with a call behind that that changes nothing
+-- with a call after that that changes nothing
 pub on_unlocked : (order : Order) (old mid new last : Facts) (more : List Call) → IsSome (get old.files lock_name) → mid.synced ≡ old.synced → Idles old mid ⊎ Adds old mid LockFile → new.calls ≡ mid.calls ++ more → LosesOn order mid new
     → last.calls ≡ new.calls → last.files ≡ new.files → last.synced ≡ new.synced → LosesOn order old last
 on_unlocked order old mid new last more there synced noted goes h calls files same =

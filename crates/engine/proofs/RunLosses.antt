@@ -1,5 +1,5 @@
--- What a loss of power leaves at any moment of a run: of what is so between two commands, and of
--- the next command, what is so behind that.
+-- What a power loss leaves at any moment of a run: of what is so between two commands, and of the
+-- next command, what is so after that.
 use Rattle.std.proofs.Common.{◌≡◌, ◌⊎◌, ◌<◌, ◌≤◌, ◌++◌, ◌∷◌, ℕ, Bool, true, false, List, [], Option, Some, None, IsSome, MatchBool, inl, inr, refl, sym, ap, subst, ◌∙◌, append-nil, arith}
 use Rattle.std.proofs.lemmas.Bool.{cases_lt}
 use Rattle.std.specs.FinMap.{get}
@@ -41,7 +41,7 @@ use Rattle.engine.specs.Working.{HasLiveOnly}
 use Rattle.engine.specs.declared.ids.Ids.{Ids}
 use Rattle.engine.specs.internal.Standing.{IsBroken, IsServing, StandsOpen}
 
--- ---- the batch in doubt
+-- ---- the in-doubt batch
 
 -- what is left of one more batch, of any machine that has accepted the same
 accepted_as : (order : Order) (lost : Files) (m n : Machine) (operations : List Operation) → n.base ≡ m.base → n.batches ≡ m.batches → m.synced ≤ n.synced → HoldsFirst order lost (accepted n operations false) → HoldsFirst order lost (accepted m operations false)
@@ -49,7 +49,7 @@ accepted_as order lost m n [] base batches synced h = first_as order lost m n ba
 accepted_as order lost m n (operation ∷ operations) base batches synced h =
     first_as order lost (accepted m (operation ∷ operations) false) (accepted n (operation ∷ operations) false) base (ap (λ (bs : List (List Operation)). bs ++ (operation ∷ operations) ∷ []) batches) synced h
 
--- the machine with this batch in doubt
+-- the machine with this in-doubt batch
 abbrev doubting : Machine → Option (List Operation) → Machine
 doubting m o = option_map_or (λ (operations : List Operation). accepted m operations false) o m
 
@@ -87,7 +87,7 @@ doubt_first order lost m n operations is h =
     let doubt : n.in_doubt ≡ Some operations = ap (λ (x : Machine). x.in_doubt) is in
     subst (λ (o : Option (List Operation)). HoldsFirst order lost (doubting n o)) (sym doubt) (accepted_as order lost n m operations (sym base) (sym batches) (omega (arith, synced)) h)
 
--- What is left in the middle of a command that has left the database idle is left behind it.
+-- What is left in the middle of a command that has left the database idle is left after it.
 ended_first : (order : Order) (m n : Machine) (op : Op) (a : Answer) → m.opened ≡ true → m.broken ≡ false → m.in_doubt ≡ None → Step order m op a n → IsIdle n → (lost : Files) → HoldsFirst order lost (with_written m op) → HoldsFirst order lost (with_doubted n)
 ended_first order m n op a opens whole certain step idle lost = at op step (step_keeps order m n op a step)
   where
@@ -105,7 +105,7 @@ ended_first order m n op a opens whole certain step idle lost = at op step (step
 abbrev pub ServesFrom : {K : Type 0} {g : _} → Option (OpenDb K g) → ℕ → Type 0
 ServesFrom {K} {g} o bound = (db : OpenDb K g) × (o ≡ Some db) × (db.broken ≡ false) × (db.directory.manifest.number ≡ bound)
 
--- Each loss until the next call leaves the first of the batches, if it spares what is to be spared:
+-- Each loss until the next call leaves a prefix of the batches, if it spares what is to be spared:
 -- all below a number that was there at some moment. The number is that of the MANIFEST of one that
 -- serves.
 pub record Between {K : Type 0} {g : _} (order : Order) (now : Facts) (o : Option (OpenDb K g)) (m : Machine) (spares : Files → Type 0) : Type 0 where
@@ -146,7 +146,7 @@ serving_within : {K : Type 0} {g : _} (order : Order) (source : Seen) (ids : Ids
 serving_within order source ids db m since bound undamaged s whole is stays lost h spares =
     serving_here order source ids db m undamaged s whole lost h (subst (λ (n : ℕ). SparesBelow source.facts n lost) (sym is) (spares_now since source.facts bound lost stays spares))
 
--- Behind an open that was accepted, and at the begin.
+-- After an open that succeeded, and at the begin.
 pub begin_anew : {K : Type 0} {g : _} (order : Order) (source : Seen) (ids : Ids) (db : OpenDb K g) (m : Machine) (spares : Files → Type 0) → m.damaged ≡ false → StandsOpen order source ids db m → db.broken ≡ false → IsSome (get source.facts.files lock_name)
     → ((lost : Files) → spares lost → SparesFound source.facts db lost) → Between order source.facts (Some db) m spares
 begin_anew order source ids db m spares undamaged s whole lock spared =
@@ -168,13 +168,13 @@ begin_anew order source ids db m spares undamaged s whole lock spared =
 more_spared : {K : Type 0} {g : _} (order : Order) (now : Facts) (o : Option (OpenDb K g)) (m : Machine) (spares more : Files → Type 0) → ((lost : Files) → more lost → spares lost) → Between order now o m spares → Between order now o m more
 more_spared order now o m spares more less b = record { since = b.since; bound = b.bound; found = b.found; lock = b.lock; here = b.here; spared = λ lost h. b.spared lost (less lost h); state = b.state }
 
--- each command has as much to spare behind it, and an open more
+-- each command has as much to spare after it, and an open more
 pub spared_less : (order : Order) (op : Op) (a : Answer) (old new : Facts) (spares : Files → Type 0) (lost : Files) → sparing order op a old new spares lost → spares lost
 spared_less order (Open mode) Done old new spares lost h = h.0
 spared_less order (Open mode) _ old new spares lost h = h
 spared_less order _ a old new spares lost h = h
 
--- What is so at each moment of a command, and behind it.
+-- What is so at each moment of a command, and after it.
 abbrev pub GoesOn : {K : Type 0} {g : _} → Order → Facts → Facts → Option (OpenDb K g) → Machine → Machine → Op → Answer → (Files → Type 0) → Type 0
 GoesOn order old new o m n op a spares =
     LosesOnly old new (λ lost. spares lost → HoldsFirst order lost (with_written (with_doubted m) op)) × Between order new o n (sparing order op a old new spares)
@@ -201,7 +201,7 @@ module _ {K : Type 0} {g : _} (order : Order) (old new : Seen) (ids given : Ids)
   found_still : StaysFound since new.facts bound
   found_still = stays_through since old.facts new.facts bound keeps.current (subst (λ (k : ℕ). StayBelow old.facts new.facts k) number keeps.each) found
 
-  -- one that serves behind it has the same MANIFEST
+  -- one that serves after it has the same MANIFEST
   same_bound : (other : OpenDb K g) → after ≡ Some other → other.broken ≡ false → StandsOpen order new given other n → other.directory.manifest.number ≡ bound
   same_bound other is serves t =
       let one = names_open order old ids db m undamaged s whole in
@@ -273,7 +273,7 @@ refused_goes order old new before after m n mode a spares b more calls loses loc
       },
     )
 
--- one that was accepted, where a loss has to spare what it couldn't remove
+-- one that succeeded, where a loss has to spare what it couldn't remove
 pub accepted_goes : {K : Type 0} {g : _} (order : Order) (old : Facts) (new : Seen) (given : Ids) (before : Option (OpenDb K g)) (db : OpenDb K g) (m n : Machine) (mode : Mode) (spares : Files → Type 0) → Between order old before m spares
     → (more : List Call) → new.facts.calls ≡ old.calls ++ more → LosesOn order old new.facts → SyncsBeginnings new.facts → HasKeptLogs new.facts db.directory → IsFresh db → IsSome (get new.facts.files lock_name)
     → old.failures ≤ new.facts.failures → (new.facts.failures ≡ old.failures → HasLiveOnly new.facts.files db)

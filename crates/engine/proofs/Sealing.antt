@@ -179,7 +179,7 @@ module _ {K : Type 0} {g : _} (order : Order) (kept : (scan : Scan K g) → Scan
   comes_behind has = comes_extended order m.damaged old.facts.files facts.files serving.ideal behind d serving.origin behind_is a.consistent
       (λ placed is. let numbered = (placed_number order serving.ideal d next placed a.consistent serving.log.knows.free is).0 in (newer_same placed.table.number numbered, older_same placed.table.number numbered)) has
 
-  -- the machine behind it
+  -- the machine after it
   abbrev pub logged_by : Machine
   logged_by = record m { numbers = m.numbers + 1; failures = facts.failures; denials = facts.denials }
 

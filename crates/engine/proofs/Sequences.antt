@@ -21,7 +21,7 @@ value_found test (e ∷ entries) x is = at (λ there. value_found test entries x
     at later true here = (let same : e.1 ≡ x = cc in (0, omega arith, same))
     at later false there = further x e.1 (values_of entries) (later there)
 
--- the one that was pushed behind the others
+-- the one that was pushed after the others
 pub last_kept : (xs items sorted : List ℕ) (last : ℕ) → items ≡ xs ++ last ∷ [] → IsPermutation items sorted → Contains sorted last
 last_kept xs items sorted last behind moved = Contains-permutation items sorted last moved (subst (λ (ys : List ℕ). Contains ys last) (sym behind) (Contains-push xs last))
 
@@ -33,7 +33,7 @@ live_kept kept yielded s t u r xs items sorted last pushed start y is step behin
     let among : Contains xs sequence = subst (λ (ys : List ℕ). Contains ys sequence) (sym (pushed ∙ all.0)) (value_found _ kept.entries sequence there) in
     Contains-permutation items sorted sequence moved (subst (λ (ys : List ℕ). Contains ys sequence) (sym behind) (Contains-append_left xs (last ∷ []) sequence among))
 
--- the one that was pushed is there, and so are those of the map
+-- the one that was pushed is there, and those of the map are too
 pub each_kept : (kept : BTreeMap ℕ ℕ) (yielded : List (Bor ℕ)) (s t u : List ℕ) (r : Option (Bor ℕ)) (xs items sorted : List ℕ) (last : ℕ) → xs ≡ map deref yielded → s ≡ values_of kept.entries → Yields (TakesFirst deref) s yielded t → r ≡ None
     → TakesFirst deref t r u → items ≡ xs ++ last ∷ [] → IsPermutation items sorted → (sequence : ℕ) → Contains (last ∷ values_of kept.entries) sequence → Contains sorted sequence
 each_kept kept yielded s t u r xs items sorted last pushed start y is step behind moved sequence (zero, lt, same) =

@@ -1,5 +1,5 @@
--- What a loss of power leaves at any moment of a run of a session, by what each of its commands
--- promises; and at its begin, of an open database or of files that the device has.
+-- What a power loss leaves at any moment of a run of a session, by what each of its commands
+-- promises. And what it leaves at its begin, of an open database or of files that are durable.
 use Rattle.std.proofs.Common.{◌≡◌, ◌≤◌, ℕ, Bool, true, false, List, [], ◌∷◌, take, Option, Some, None, is_some, IsSome, IsTrue, inl, inr, refl, sym, ap, subst, ◌∙◌, append-nil, arith}
 use Rattle.std.specs.FinMap.{get}
 use Rattle.batch.specs.declared.operation.Operation.{Operation}
@@ -163,7 +163,7 @@ module _ {S K : Type 0} {g : _} (order : Order) (facts : S → Facts) (old new :
 
 -- ---- a run
 
--- what is synced is a beginning in front of each command
+-- what is synced is a beginning before each command
 sound_before : {S K : Type 0} {g : _} (order : Order) (facts : S → Facts) (ops : List Op) (answers : List Answer) (old new : Session S K g) → AllApplied order facts ops answers old new → SyncsBeginnings (facts (store_of new)) → SyncsBeginnings (facts (store_of old))
 sound_before {S} {K} {g} order facts [] [] old new same sound = subst (λ (session : Session S K g). SyncsBeginnings (facts (store_of session))) same sound
 sound_before order facts (op ∷ ops) (answer ∷ answers) old new h sound = h.1.sound
@@ -208,7 +208,7 @@ session_loses {S} {K} {g} order facts ops answers old new all sound f lock db is
     loses_each order facts ops answers old new (facts (store_of new)) all f sound refl refl refl (omega arith) m undamaged s (SparesFound now db)
     (subst (λ (o : Option (OpenDb K g)). Between order now o m (SparesFound now db)) (sym is) (begin_anew order (seen_in facts old) (ids_of old) db m (SparesFound now db) undamaged stands whole lock (λ lost spares. spares)))
 
--- ---- files that the device has
+-- ---- files that are durable
 
 -- each loss until the next call leaves each file
 device_lost : (facts : Facts) → IsOnDevice facts → (lost : Files) → Lost facts (moment facts) lost → (q : List ℕ) → get lost q ≡ get facts.files q

@@ -37,7 +37,7 @@ use Rattle.engine.proofs.Tabled.{appendable_of, logged_newer}
 newer_as : (front old new : List Entry) → SameEntries new old → IsNewerThan front old → IsNewerThan front new
 newer_as front old new same newer a b i j key = newer a b i ((same b).0 j) key
 
--- the entries in memory in front of the same in another order
+-- the entries in memory before the same in another order
 in_front : (inserts old new : List Entry) → SameEntries new old → SameEntries (old ++ inserts) (inserts ++ new)
 in_front inserts old new same e = (
   λ i. elim (among_split old inserts e i) [ inl j ↦ among_back inserts new e ((same e).1 j) | inr j ↦ among_front inserts new e j ],

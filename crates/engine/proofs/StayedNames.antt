@@ -49,7 +49,7 @@ spares_tables mine files log state tables names others placed = record {
 pub not_dead : (live : FileName → Type 0) (file : FileName) → IsFileName file → live file → IsDead live (name_of file) → ⊥
 not_dead live file is alive dead = dead.3 (subst live (one_file file dead.0 is dead.1 dead.2) alive)
 
--- what isn't live isn't read
+-- what is obsolete isn't read
 pub spares_dead : (files : Files) (log : CurrentLog) (state : DirectoryState) (tables : List PlacedTable) (in_use : ℕ → Type 0) → HaveNames log state tables → ((placed : PlacedTable) → Contains tables placed → in_use placed.table.number)
     → SparesRead (IsDead (IsLiveAmong files (numbers_of state) in_use)) files state tables
 spares_dead files log state tables in_use names used =
@@ -66,7 +66,7 @@ spares_dead files log state tables in_use names used =
           );
     }
 
--- the log that writes go to, and any behind it, is read
+-- the log that writes go to, and any after it, is read
 pub first_least : (log : CurrentLog) (state : DirectoryState) (tables : List PlacedTable) → HaveNames log state tables → state.first_log ≤ state.numbers.next
 first_least log state tables names = (let forward = names.forward in let less = names.last.1 in omega (arith, forward, less))
 
@@ -170,7 +170,7 @@ unmade_calls old new name (inr adds) same lacks =
     let made : contains_key new.files name ≡ true = ap (λ (fs : Files). contains_key fs name) adds.1 ∙ ap is_some (get_same old.files name []) in
     absurd (let bad : true ≡ false = sym made ∙ ap (λ (fs : Files). contains_key fs name) same ∙ lacks in cc)
 
--- ---- behind a sync
+-- ---- after a sync
 
 pub undrawn_still : (old new : Facts) (mine : List ℕ → Type 0) (state : DirectoryState) (tables : List PlacedTable) (next : ℕ) → CarriesBut old new mine → ((n : ℕ) → IsNumbered n → mine (name_of (Log n)) → ⊥) → state.numbers.next ≤ next → HaveStayed old state tables
     → (n : ℕ) → IsNumbered n → next ≤ n → contains_key new.files (name_of (Log n)) ≡ false

@@ -1,4 +1,4 @@
--- What a stop leaves in the middle of a command that writes no batch.
+-- What a process crash leaves in the middle of a command that writes no batch.
 use Rattle.std.proofs.Common.{◌≡◌, ◌⊎◌, ◌<◌, ℕ, ◌+◌, ◌^◌, Bool, true, false, List, [], ◌∷◌, ◌++◌, Contains, max, length, sum_by, Option, Some, None, MatchBool, MatchOption, Ok, IsTrue, inl, inr, refl, sym, ap, subst, ◌∙◌, arith}
 use Rattle.std.proofs.lemmas.List.Sums.{sum_by-append}
 use Rattle.std.specs.FinMap.{get}
@@ -88,7 +88,7 @@ module _ {K : Type 0} {g : _} (order : Order) (source : Seen) (db : OpenDb K g) 
       rests_seen order source db m serving files d good (subst (λ (es : List Entry). IsView es db.memory.last (current m)) entries_are serving.entries.view)
       (subst (λ (es : List Entry). AreAccounted es (entry_count m) (weight m)) entries_are serving.accounted) (sym a.spent)
 
-  -- so do those where the sealed memtable is flushed, or not
+  -- the same for those where the sealed memtable is flushed, or not
   pub means_flushed : SameViewLaw → (files : Files) (next after : ℕ) (entries : List Entry) → MayBeFlushed order serving.ideal files next after entries d serving.log.logs.sealed serving.log.logs.current → MeansAccepted order files m
   means_flushed law files next after entries may = elim may.either [
     | inl still ↦ means_still files still.0
@@ -198,7 +198,7 @@ keeps_none order source db = keeps_read order source source db (λ f. refl) (λ 
 draws_back : (order : Order) (files : Files) (m n : Machine) (most : ℕ) → Draws m most n → MeansAccepted order files n → MeansAccepted order files m
 draws_back order files m n most drawn means = subst (λ (x : Machine). MeansAccepted order files x) drawn.1 means
 
--- one piece behind another
+-- one piece after another
 pub keeps_then : {K T : Type 0} {g : _} (order : Order) (old mid new : Seen) (before between : OpenDb K g) (most : Machine → ℕ) (done : T) → ((ids : Ids) → LeadsOpen order old mid ids before between (λ m n. IsPiece m (most m) (Ok done) n))
     → (IsTrue new.facts.faithful → IsTrue mid.facts.faithful) → KeepsOpen order old mid before → KeepsOpen order mid new between → KeepsOpen order old new before
 keeps_then order old mid new before between most done step back first next = record {
@@ -228,7 +228,7 @@ keeps_then order old mid new before between most done step back first next = rec
 
 -- ---- an open
 
--- it was known whether the batch in doubt counts
+-- it was known whether the in-doubt batch counts
 means_unpushed : (order : Order) (files : Files) (m : Machine) (operations : List Operation) → MeansCurrent order files (record m { in_doubt = None; batches = m.batches ++ operations ∷ []; used = m.used + length operations })
     → MeansWith order files m operations
 means_unpushed order files m operations means =
@@ -267,7 +267,7 @@ pub continued_keeps : (order : Order) (old new : Facts) (m : Machine) → MeansA
 continued_keeps order old new m means h =
     leaves_so old new (IsContinued order old.files) (λ files. MeansAccepted order files m) (λ files continued. accepted_again order old.files files continued m means) h
 
--- the removal of files behind it
+-- the removal of files after it
 pub opened_keeps : {K : Type 0} {g : _} (order : Order) (old : Facts) (mid new : Seen) (db : OpenDb K g) (mode : Mode) → (IsTrue new.facts.faithful → IsTrue mid.facts.faithful)
     → ((ids : Ids) → Leads old mid.facts (Rests order old ids) (StandsOpen order mid ids db) (λ m n. Opens m mode Done n)) → (IsTrue mid.facts.faithful → (m : Machine) → MeansAccepted order old.files m → LeavesOnly old mid.facts (λ files. MeansAccepted order files m))
     → KeepsOpen order mid new db → IsTrue new.facts.faithful → (ids : Ids) (m : Machine) → m.damaged ≡ false → Rests order old ids m → LeavesOnly old new.facts (λ files. MeansAccepted order files m)
@@ -283,7 +283,7 @@ lock_keeps order old new m law undamaged s h =
     leaves_so old new (MayLock old.files) (λ files. MeansAccepted order files m)
     (λ files may. accepted_beside order old.files files law (may_lock_only old.files files may) m (means_whole order old.files m undamaged s.rest)) h
 
--- a call of the store behind it that changes nothing
+-- a call of the store after it that changes nothing
 pub keeps_behind : (order : Order) (old mid new : Facts) (m : Machine) → new.calls ≡ mid.calls → new.files ≡ mid.files → LeavesOnly old mid (λ files. MeansAccepted order files m) → LeavesOnly old new (λ files. MeansAccepted order files m)
 keeps_behind order old mid new m calls files h =
     leaves_both old mid new (λ fs. MeansAccepted order fs m) h (leaves_same mid new (λ fs. MeansAccepted order fs m) calls files h.now)
@@ -311,12 +311,12 @@ pub stops_lent : {K : Type 0} {g : _} (order : Order) (source new : Seen) (ids :
 stops_lent order source new ids o db is keeps f m undamaged s =
     stops_keeping order m source.facts new.facts (keeps.stops f ids m (record { stands = subst (λ (x : Option (OpenDb _ _)). StandsOver order source ids x m) is s; undamaged = undamaged }))
 
--- ---- commands of an open database, one behind the other
+-- ---- commands of an open database, one after the other
 
 abbrev worked : Machine → Machine → Machine
 worked m n = record m { numbers = n.numbers; broken = n.broken; failures = n.failures; denials = n.denials }
 
--- what files held behind work they did before it
+-- what files held after work they did before it
 holds_back : (order : Order) (files : Files) (m n : Machine) → OnlyWorks m n → HoldsAccepted order files n → HoldsAccepted order files m
 holds_back order files m n works holds = at m.in_doubt (subst (λ (x : Machine). HoldsAccepted order files x) works.1 holds)
   where

@@ -1,4 +1,4 @@
--- What a stop leaves in the middle of a write, and of a run.
+-- What a process crash leaves in the middle of a write, and of a run.
 use Rattle.std.proofs.Common.{Bool, true, false, Option, Some, None, MatchBool, MatchOption, ◌≡◌, ◌⊎◌, ℕ, List, [], ◌∷◌, IsTrue, Err, inl, inr, refl, sym, ap, ◌∙◌, subst, arith, if◌then◌else◌}
 use Rattle.std.specs.Option.{option_or}
 use Rattle.store.specs.Files.{Facts, Files, AppendsBeginning}
@@ -36,7 +36,7 @@ use Rattle.engine.proofs.StopSteps.{means_over}
 
 -- ---- the record of a batch
 
--- what is left is what a failure of the device leaves
+-- what is left is what a failure of the store leaves
 pub stopped_append : (old : Facts) (files : Files) (name bytes : List ℕ) → IsTrue old.faithful → AppendsBeginning old.files files name bytes → AppendsRecord old (stopped_at old files) name bytes (Err Device)
 stopped_append old files name bytes faithful left = record {
   faithful = λ f. faithful;
@@ -109,7 +109,7 @@ stops_written order source ids db operations new m undamaged s idle stops = at d
         leaves_so source.facts new (λ files. IsAtRest order files (doubted m operations)) (λ files. LeftByWrite order m operations files)
         (λ files rest. left_serving order m operations files s.opened (serving_of order source ids db m is s).whole (holds_doubted order files m operations undamaged rest)) (stops is)
 
--- ---- work behind a write
+-- ---- work after a write
 
 -- a write that was done had no cause against it
 served : (o s f : Option DbError) (A : Type 0) (B : DbError → Type 0) → ((e : DbError) → B e → ⊥) → MatchOption (option_or o (option_or s f)) A B → (s ≡ None) × A
@@ -137,7 +137,7 @@ whole_of true true free = absurd (cc)
 whole_of true false free = refl
 whole_of false broken free = absurd (cc)
 
--- what files held behind a write they were left by it
+-- what files held after a write they were left by it
 pub done_by : (m n : Machine) (operations : List Operation) (sync : Bool) → Writes m operations sync Done n → (not_serving (status_of m) ≡ None) × (n ≈ accepted m operations sync)
 done_by m n operations sync writes = served (first_refusal [] operations) (not_serving (status_of m)) (full (status_of m) operations) _ _ (λ e h. never_done e _ h) writes.1
 
@@ -161,8 +161,8 @@ faithful_before order facts (op ∷ ops) (answer ∷ answers) old new h f = h.1.
 faithful_before order facts [] (answer ∷ answers) old new h f = absurd h
 faithful_before order facts (op ∷ ops) [] old new h f = absurd h
 
--- each command leaves what it may in the state that those in front of it led to; at last no call
--- was made
+-- each command leaves what it may in the state that those before it led to; at last no call was
+-- made
 pub stops_each : {S K : Type 0} {g : _} (order : Order) (facts : S → Facts) (ops : List Op) (answers : List Answer) (old new : Session S K g) (last : Facts) → AllApplied order facts ops answers old new
     → IsTrue (facts (store_of new)).faithful → last.calls ≡ (facts (store_of new)).calls → last.files ≡ (facts (store_of new)).files → (m : Machine) → m.damaged ≡ false → Stands order facts old m
     → StopsEach order m (facts (store_of old)) last ops answers

@@ -82,7 +82,7 @@ module _ (front : FrontLaw) (behind : BehindLaw) (same : SameViewLaw) (tables in
 
 -- ---- a write
 
--- the entries of a batch behind those of the logs
+-- the entries of a batch after those of the logs
 pub written_view : (tables inserts : List Entry) (used : ℕ) (operations : List Operation) (map : Contents) → IsView (tables ++ inserts) used map → AllUpTo used (tables ++ inserts)
     → IsView (tables ++ (inserts ++ entries_of (used + 1) operations)) (used + length operations) (after_batch map operations) × AllUpTo (used + length operations) (tables ++ (inserts ++ entries_of (used + 1) operations))
 written_view tables inserts used operations map view bounded =

@@ -1,4 +1,4 @@
--- Behind an open in which no call of the store failed no table and no log lies about that its
+-- After an open in which no call of the store failed no table and no log lies about that its
 -- directory doesn't read.
 use Rattle.std.proofs.Common.{◌≡◌, ◌⊎◌, ◌<◌, ◌≤◌, ℕ, true, List, [], ◌∷◌, length, Option, Some, None, is_some, Any, Contains, inl, inr, refl, sym, ap, subst, ◌∙◌, arith}
 use Rattle.std.specs.FinMap.{get, contains_key}

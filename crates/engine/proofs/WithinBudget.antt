@@ -74,7 +74,7 @@ more_left {K} {g} order old mid db work more next budget progress is going goes 
 
 -- ---- the files of its tables
 
--- those of the tables of the version stay where only what isn't live is removed
+-- those of the tables of the version stay where only what is obsolete is removed
 pub tables_stay : {K : Type 0} {g : _} (order : Order) (old new : Seen) (before between : OpenDb K g) → between.tables ≡ before.tables → between.job ≡ before.job → between.iterators ≡ before.iterators → before.broken ≡ false
     → LosesDead old.facts new.facts between → KeepsTableFiles order old new before
 tables_stay order old new before between tables job iterators whole loses ids m s number has =
@@ -131,7 +131,7 @@ steps_begun order options old between new before mid after most plan leads flag 
   merged,
 )
 
--- behind a piece that leaves tables and compaction
+-- after a piece that leaves tables and compaction
 pub steps_behind : {K : Type 0} {g : _} (order : Order) (options : OptionValues) (old mid new : Seen) (before between after : OpenDb K g) (most : ℕ) {P : Machine → Machine → Type 0} → ((ids : Ids) → LeadsOpen order old mid ids before between P) → KeepsFlag P → IsTrue mid.facts.faithful
     → version_of between ≡ version_of before → live_sequences before ≡ live_sequences between → between.job ≡ before.job → KeepsTableFiles order old mid before → StepsBy order options mid new between after most → StepsBy order options old new before after most
 steps_behind {K} {g} order options old mid new before between after most leads flag f version sequences same files inner =

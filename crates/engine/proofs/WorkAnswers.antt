@@ -72,7 +72,7 @@ module _ {K : Type 0} {g : _} (order : Order) (old mid new : Seen) (ids : Ids) (
         (two.0, pieces_on m one.0 two.0 few most done result one.1 two.1, two.2);
   }
 
--- want of memory where the store failed
+-- out of memory where the store failed
 as_failure : {T : Type 0} (m n : Machine) (most : ℕ) (complete : Bool) (e : DbError) → (complete ≡ false → m.failures < n.failures) → IsPiece {T = T} m most (Err e) n → IsPiece {T = T} m most (Err (refused_as complete e)) n
 as_failure m n most complete e rose piece = record { failures = piece.failures; denials = piece.denials; what = at e complete rose piece.what }
   where
@@ -86,7 +86,7 @@ as_failure m n most complete e rose piece = record { failures = piece.failures; 
     at _ complete rose h = h
 
 module _ {K : Type 0} {g : _} (order : Order) (old mid new : Seen) (ids : Ids) (before between after : OpenDb K g) where
-  -- a refusal behind a removal
+  -- a refusal after a removal
   pub then_refused : {T U : Type 0} (most : ℕ) (complete : Bool) (e : DbError) → (complete ≡ false → old.facts.failures < mid.facts.failures) → mid.facts.failures ≤ new.facts.failures
       → LeadsOpen order old mid ids before between (λ m n. IsPiece m 0 (Ok complete) n) → LeadsOpen order mid new ids between after (λ m n. IsPiece {T = T} m most (Err e) n)
       → LeadsOpen order old new ids before after (λ m n. IsPiece {T = U} m (0 + most) (Err (refused_as complete e)) n)

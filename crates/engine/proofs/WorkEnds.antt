@@ -157,7 +157,7 @@ module _ {K : Type 0} {g : _} (order : Order) (kept : (scan : Scan K g) → Scan
   log_refused m error.NumbersSpent h same below other = ((let most = h.0 in omega (arith, most, below)), draws m 1 facts)
   log_refused m _ h same below other = absurd h
 
-  -- the device failed: the log is there, or not
+  -- the store failed: the log is there, or not
   log_failed : {T : Type 0} (back : Memories) → old.facts.failures < facts.failures → DrawsLog old.facts facts next numbers.next (Err error.Io) → BeginsLog {T = ℕ × String Global} order old.facts facts next numbers.next (Err error.Io) → BeginsEach (Err error.Io)
       → LeadsOpen order old (record old { facts = facts }) ids (open_db memory state) (open_db back (record drawn { broken = true })) (λ m n. IsPiece {T = T} m 1 (Err error.Io) n)
   log_failed back rise draws_log begins each =

@@ -101,7 +101,7 @@ module _ (old new : Facts) (log : CurrentLog) (state : DirectoryState) (tables :
     stayed = stayed_all old new log state tables h.names carries h.stayed;
   }
 
-  -- none is in doubt but the one that was written to, since those in front of it were synced
+  -- none is in doubt but the one that was written to, since those before it were synced
   pub synced_but_last : (after : CurrentLog) → after.number ≡ log.number → string_bytes after.name ≡ string_bytes log.name → after.front.items ≡ [] → AllByRecursion (IsSynced new) (map string_bytes log.front.items) → IsSyncedBut new after state tables
   synced_but_last after number name empty front =
       let in_doubt : string_bytes log.name ∷ [] ≡ logs_in_doubt after = λ i. sym name i ∷ map string_bytes (sym empty i) in
@@ -112,7 +112,7 @@ module _ (old new : Facts) (log : CurrentLog) (state : DirectoryState) (tables :
         stayed = stayed_all old new log state tables h.names carries h.stayed;
       }
 
-  -- The log has another name than those in front of it.
+  -- The log has another name than those before it.
   none_in_front : (names : List (List ℕ)) → AllByRecursion (IsLogBelow log.number) names → IsNoneOf (string_bytes log.name) names
   none_in_front [] below = tt
   none_in_front (name ∷ names) below = (

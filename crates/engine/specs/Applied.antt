@@ -67,8 +67,8 @@ Shows options (Get key snapshot) state answer = IsRead key snapshot state answer
 Shows options (Work budget) state answer = ShowsWork options state answer
 Shows options _ state answer = Unit {0}
 
--- Behind a compaction of a level that level has no tables; behind one of all, all tables stand in
--- the last level, and nothing is in memory.
+-- After a compaction of a level that level has no tables; after one of all, all tables stand in the
+-- last level, and nothing is in memory.
 abbrev pub EmptiesLevel : {K : Type 0} {g : _} → ℕ → Option (OpenDb K g) → Answer → Type 0
 EmptiesLevel level (Some db) Done = IsLevelEmpty level db
 EmptiesLevel level None Done = Unit {0}
@@ -84,7 +84,7 @@ Leaves (CompactLevel level) state answer = EmptiesLevel level state answer
 Leaves CompactAll state answer = CompactsWhole state answer
 Leaves _ state answer = Unit {0}
 
--- While the store is faithful, the tables have only what is needed behind a compaction of all, in
+-- While the store is faithful, the tables have only what is needed after a compaction of all, in
 -- each state that the session could be in.
 abbrev pub LeavesOnly : {K : Type 0} {g : _} → Order → Facts → (Machine → Type 0) → Option (OpenDb K g) → Answer → Type 0
 LeavesOnly order facts before (Some db) Done = IsTrue facts.faithful → (m : Machine) → before m → HasOnlyNeeded order facts.files db m
@@ -95,15 +95,14 @@ abbrev pub KeepsOnly : {K : Type 0} {g : _} → Op → Order → Facts → (Mach
 KeepsOnly CompactAll order facts before state answer = LeavesOnly order facts before state answer
 KeepsOnly _ order facts before state answer = Unit {0}
 
--- No database is open behind a close.
+-- No database is open after a close.
 abbrev pub Shuts : {K : Type 0} {g : _} → Op → Option (OpenDb K g) → Type 0
 Shuts Close state = state ≡ None
 Shuts _ state = Unit {0}
 
 -- What a call of work promises beside its step: which piece of work it was, how far it brought a
--- compaction, and what a table has that it wrote of a memtable; where there was none, that the
--- files are exactly the live ones, unless one couldn't be removed, and that no memtable is kept
--- that is of no use.
+-- compaction, and what a table has that it wrote of a memtable. If there was none, the files are
+-- exactly those in use, unless one couldn't be removed, and no obsolete memtable is kept.
 pub record DoneWork {K : Type 0} {g : _} (order : Order) (options : OptionValues) (budget : ℕ) (old new : Seen) (before after : OpenDb K g) (result : Result Progress DbError) : Type 0 where
   pub does : DoesWork order.cmp options budget before after result
   pub within : EndsWithin order options budget old new before after result
@@ -187,7 +186,7 @@ pub record HoldsNothing {S K : Type 0} {g : _} (session : Session S K g) : Type 
   pub alone : IsAlone session.source.memory
   pub entries : session.source.memory.current.inserts ≡ []
 
--- So it is behind a close that was done.
+-- The same holds after a close that was done.
 abbrev pub LetsGo : {S K : Type 0} {g : _} → Op → Session S K g → Answer → Type 0
 LetsGo Close new Done = HoldsNothing new
 LetsGo op new answer = Unit {0}
@@ -253,11 +252,11 @@ DbRead key snapshot db result = IsReadBy key snapshot (open_by db) result
 abbrev pub DbWorks : {S K : Type 0} {g : _} → Cmp → ℕ → Db S K g → Db S K g → Result Progress DbError → Type 0
 DbWorks cmp budget old new result = DoesWork cmp old.options budget (open_by old) (open_by new) result
 
--- Where there was none, all files are live, unless one couldn't be removed.
+-- Where there was none, all files are in use, unless one couldn't be removed.
 abbrev pub DbTidies : {S K : Type 0} {g : _} → (S → Facts) → Db S K g → Db S K g → Result Progress DbError → Type 0
 DbTidies facts old new result = result ≡ Ok Idle → IsTrue (facts (db_store_of new)).faithful → (facts (db_store_of new)).failures ≡ (facts (db_store_of old)).failures → HasLiveOnly (facts (db_store_of new)).files (open_by new)
 
--- No memtable is kept then that is of no use.
+-- No memtable is kept then that is obsolete.
 abbrev pub DbDrops : {S K : Type 0} {g : _} → Db S K g → Result Progress DbError → Type 0
 DbDrops new result = result ≡ Ok Idle → HasUsedMemory new.source.memory new.state.iterators
 
@@ -265,7 +264,7 @@ DbDrops new result = result ≡ Ok Idle → HasUsedMemory new.source.memory new.
 abbrev pub DbRemoves : {S K : Type 0} {g : _} → (S → Facts) → Db S K g → Db S K g → Result Progress DbError → Type 0
 DbRemoves facts old new result = result ≡ Ok Idle → IsTrue (facts (db_store_of new)).faithful → LosesDead (facts (db_store_of old)) (facts (db_store_of new)) (open_by new)
 
--- The files are exactly the live ones then.
+-- The files are exactly those in use then.
 abbrev pub DbExact : {S K : Type 0} {g : _} → Order → (S → Facts) → Db S K g → Db S K g → Result Progress DbError → Type 0
 DbExact order facts old new result = LeavesExactlyLive order (seen_by facts old) (seen_by facts new) (open_by old) (open_by new) result
 

@@ -13,9 +13,8 @@ use Rattle.engine.specs.OpenDb.{OpenDb}
 use Rattle.engine.specs.Stands.{store_of, open_in}
 use Rattle.engine.specs.StandsDb.{db_store_of, open_by}
 
--- Of a database that wasn't broken: it is broken behind a call exactly where a call of the store
--- failed within that makes a file, adds to one, syncs one or renames one; and then the answer is
--- Io.
+-- Of a database that wasn't broken. It is broken after a call exactly if within it a call of the
+-- store failed that makes a file, adds to one, syncs one or renames one; and then the answer is Io.
 pub record BreaksExactly (old new : Facts) (now : Bool) (is_io : Type 0) : Type 0 where
   pub broken : now ≡ true → (old.write_failures < new.write_failures) × is_io
   pub whole : now ≡ false → new.write_failures ≡ old.write_failures
@@ -27,7 +26,7 @@ BreaksLent facts old new after result = BreaksExactly (facts old.tables.store) (
 abbrev pub DbBreaks : {S K T : Type 0} {g : _} → (S → Facts) → Db S K g → Db S K g → Result T DbError → Type 0
 DbBreaks facts old new result = (open_by old).broken ≡ false → BreaksExactly (facts (db_store_of old)) (facts (db_store_of new)) (open_by new).broken (result ≡ Err Io)
 
--- of what is open in a session before and behind a command
+-- of what is open in a session before and after a command
 abbrev pub BreaksOpen : {K : Type 0} {g : _} → Facts → Facts → Option (OpenDb K g) → Option (OpenDb K g) → Answer → Type 0
 BreaksOpen old new None after answer = Unit {0}
 BreaksOpen old new (Some before) None answer = Unit {0}

@@ -23,8 +23,8 @@ use Rattle.machine.specs.Machine.{Machine}
 use Rattle.engine.specs.internal.Standing.{StandsWhole}
 
 -- the file is `CURRENT`, the lock, the MANIFEST, the log that writes go to, or a table of the
--- version or of that of an open iterator: of one that has a file under both of its names the one
--- that is read
+-- version or of that of an open iterator. Of a table that has a file under both of its names it is
+-- the one that is read.
 abbrev pub IsLiveAtEase : {K : Type 0} {g : _} → Files → OpenDb K g → FileName → Type 0
 IsLiveAtEase files db Current = Unit {0}
 IsLiveAtEase files db Lock = Unit {0}

@@ -32,7 +32,7 @@ pub record CompactOutcome {T K : Type 0} {g : _} (may : DbError → Type 0) (old
 abbrev pub IsLevelEmpty : {K : Type 0} {g : _} → ℕ → OpenDb K g → Type 0
 IsLevelEmpty level db = tables_at level db.tables ≡ []
 
--- The compaction that was under way came to its end, if one was. Behind it the tables of the level,
+-- The compaction that was under way came to its end, if one was. After it the tables of the level,
 -- where it had some, were compacted into the next one, with what they bring along; its other tables
 -- stay.
 pub record MovesLevel {K : Type 0} {g : _} (cmp : Cmp) (level : ℕ) (before after : OpenDb K g) : Type 0 where
@@ -46,7 +46,7 @@ pub record HasNoMemory {K : Type 0} {g : _} (db : OpenDb K g) : Type 0 where
   pub current : db.memory.current.inserts ≡ []
   pub sealed : db.memory.sealed ≡ None
 
--- So it is, and all tables stand in the last level.
+-- That holds, and all tables stand in the last level.
 pub record IsAllCompacted {K : Type 0} {g : _} (db : OpenDb K g) : Type 0 where
   pub memory : HasNoMemory db
   pub levels : (level : ℕ) → level < 6 → tables_at level db.tables ≡ []

@@ -24,7 +24,7 @@ pub record Holds (order : Order) (files : Files) (m : Machine) : Type 0 where
   pub directory : IsDirectory order files entries m.used
   pub view : IsView entries m.used (current m)
 
--- They hold it with the batch in doubt as a whole, or without it.
+-- They hold it with the in-doubt batch as a whole, or without it.
 abbrev pub HoldsAccepted : Order → Files → Machine → Type 0
 HoldsAccepted order files m = MatchOption m.in_doubt (Holds order files m) (λ batch. Holds order files m ⊎ Holds order files (accepted m batch false))
 
@@ -46,7 +46,7 @@ pub record IsFirst (order : Order) (facts : Facts) (m : Machine) : Type 0 where
   pub counts : (m.failures ≡ facts.failures) × (m.denials ≡ facts.denials)
   pub size : (m.first_entries ≡ length holds.entries) × (m.first_weight ≡ sum_by entry_weight holds.entries)
 
--- The machine behind the last one: the files hold what it accepted, with the batch in doubt as a
+-- The machine after the last one: the files hold what it accepted, with the in-doubt batch as a
 -- whole or without it.
 pub record IsLast (order : Order) (facts : Facts) (m : Machine) : Type 0 where
   pub holds : HoldsAccepted order facts.files m
@@ -55,7 +55,7 @@ pub record IsLast (order : Order) (facts : Facts) (m : Machine) : Type 0 where
   pub denials : m.denials ≡ facts.denials
 
 -- While the store is faithful, each machine of the files at first, which are undamaged, gives these
--- answers to these commands, and the files are then those of the machine that it comes to.
+-- answers to these commands. The files are then those of the machine that it comes to.
 abbrev pub Headline : Order → Facts → Facts → List Op → List Answer → Type 0
 Headline order old new ops answers =
     IsTrue new.faithful → (first : Machine) → IsFirst order old first → first.damaged ≡ false → (last : Machine) × Run order first ops answers last × IsLast order new last

@@ -1,5 +1,5 @@
--- What a loss of power leaves at any moment of a run, over as many opens and closes of one store as
--- it has.
+-- What a power loss leaves at any moment of a run, over as many opens and closes of one store as it
+-- has.
 use Rattle.std.specs.Prelude.{◌≡◌, ◌⊎◌, ◌<◌, ◌≤◌, ◌++◌, ℕ, false, IsSome, IsTrue, List, [], ◌∷◌, Some}
 use Rattle.std.specs.FinMap.{get}
 use Rattle.std.specs.Option.{option_map_or}
@@ -27,23 +27,23 @@ use Rattle.engine.specs.declared.session.Session.{Session}
 abbrev pub IsNameOf : ℕ → List ℕ → Type 0
 IsNameOf n q = (q ≡ name_of (Table n)) ⊎ (q ≡ name_of (OldTable n)) ⊎ (q ≡ name_of (Log n))
 
--- Of the files with numbers below that of its MANIFEST which a directory doesn't read, as an open
--- couldn't remove them, each is synced whole, or the loss has left it whole, or taken it away.
+-- The files with numbers below that of its MANIFEST which a directory doesn't read, as an open
+-- couldn't remove them: each is synced whole, or the loss has left it whole, or removed it.
 abbrev pub SparesUnread : Order → Facts → Files → Type 0
 SparesUnread order facts lost = (d : Directory) → IsConsistent order facts.files d → (n : ℕ) → IsNumbered n → n < d.manifest
     → (q : List ℕ) → IsNameOf n q → (IsReadIn facts.files d q ⊎ IsLogIn d q → ⊥) → IsLeftWhole facts lost q
 
--- What a loss has to spare behind a command: behind an open that was accepted, though a call of the
+-- What a loss has to spare after a command: after an open that succeeded, though a call of the
 -- store failed, what that couldn't remove, too.
 abbrev pub sparing : Order → Op → Answer → Facts → Facts → (Files → Type 0) → Files → Type 0
 sparing order (Open mode) Done old new spares lost = spares lost × (old.failures < new.failures → SparesUnread order new lost)
 sparing order op answer old new spares lost = spares lost
 
--- The machine with the batch in doubt as the last of its batches.
+-- The machine with the in-doubt batch as the last of its batches.
 abbrev pub with_doubted : Machine → Machine
 with_doubted m = option_map_or (λ operations. accepted m operations false) m.in_doubt m
 
--- At any moment from old on, up to new, a loss leaves files that have P; and the calls go on from
+-- At any moment from old on, up to new, a loss leaves files that have P. The calls go on from
 -- there, so that such pieces have each moment of a run, and each of its failures.
 pub record LosesAlong (old new : Facts) (P : Files → Type 0) : Type 0 where
   pub more : List Call
@@ -51,9 +51,9 @@ pub record LosesAlong (old new : Facts) (P : Files → Type 0) : Type 0 where
   pub failures : old.failures ≤ new.failures
   pub each : LosesOnly old new P
 
--- At any moment of a command a loss leaves the first of the batches that were accepted by then, no
--- fewer than the last write with sync had the device keep; of a write its batch is the last of
--- them, and so is one in doubt.
+-- At any moment of a command a loss leaves a prefix of the batches that were accepted by then, no
+-- fewer than the last write with sync synced. Of a write its batch is the last of them, and so is
+-- an in-doubt one.
 abbrev pub LosesEach : Order → (Files → Type 0) → Machine → Facts → Facts → List Op → List Answer → Type 0
 LosesEach order spares m old new [] [] = LosesAlong old new (λ lost. spares lost → HoldsFirst order lost (with_doubted m))
 LosesEach order spares m old new (command ∷ commands) (answer ∷ answers) =
@@ -62,22 +62,22 @@ LosesEach order spares m old new (command ∷ commands) (answer ∷ answers) =
 LosesEach order spares m old new [] (answer ∷ answers) = ⊥
 LosesEach order spares m old new (command ∷ commands) [] = ⊥
 
--- So it is from each state without damage of a session with an open database that isn't broken,
--- whose store has the lock's file: of the files that were there before its open each that isn't
--- known to be synced is left whole, or taken away.
+-- That holds from each state without damage of a session with an open database that isn't broken,
+-- whose store has the lock's file. Of the files that were there before its open each that isn't
+-- known to be synced must be left whole, or removed.
 abbrev pub SessionLosesRun : {S K : Type 0} {g : _} → Order → (S → Facts) → List Op → List Answer → Session S K g → Session S K g → Type 0
 SessionLosesRun {S} {K} {g} order facts ops answers old new =
     IsTrue (facts (store_of new)).faithful → IsSome (get (facts (store_of old)).files lock_name) → (db : OpenDb K g) → open_in old ≡ Some db → db.broken ≡ false
     → (m : Machine) → m.damaged ≡ false → Stands order facts old m
     → LosesEach order (SparesFound (facts (store_of old)) db) m (facts (store_of old)) (facts (store_of new)) ops answers
 
--- The device has all files and their names.
+-- All files and their names are durable.
 pub record IsOnDevice (facts : Facts) : Type 0 where
   pub files : (name : List ℕ) → IsKept facts name
   pub names : (name : List ℕ) → StaysNamed facts name
 
--- From the files at its begin, which the device has and among which is the lock's, to those at its
--- end: a loss has nothing to spare then, where no call of the store failed.
+-- From the files at its begin, which are durable and among which is the lock's, to those at its
+-- end. A loss has nothing to spare then, if no call of the store failed.
 abbrev pub LosesRun : Order → Facts → Facts → List Op → List Answer → Type 0
 LosesRun order old new ops answers = IsTrue new.faithful → IsSome (get old.files lock_name) → IsOnDevice old → (first : Machine) → IsFirst order old first → first.damaged ≡ false
     → LosesEach order (λ lost. Unit {0}) first old new ops answers

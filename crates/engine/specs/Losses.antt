@@ -1,4 +1,4 @@
--- What a loss of power leaves of an open database.
+-- What a power loss leaves of an open database.
 use Rattle.std.specs.Prelude.{◌≡◌, ◌<◌, ◌≤◌, ℕ, length, take, false, IsTrue, Contains, List, [], map, string_bytes, Option, Some, None, Result, OnOk}
 use Rattle.std.specs.FinMap.{get}
 use Rattle.batch.specs.declared.operation.Operation.{Operation}
@@ -30,7 +30,7 @@ use Rattle.engine.specs.declared.ids.Ids.{Ids}
 use Rattle.engine.specs.internal.Standing.{StandsClosed}
 use Rattle.engine.specs.declared.session.Session.{Session}
 
--- The log that writes go to is synced as the last call, no log in front of it is in doubt, and the
+-- The log that writes go to is synced as the last call, no log before it is in doubt, and the
 -- database goes on serving.
 pub record HasSyncedLog {K : Type 0} {g : _} (facts : Facts) (db : OpenDb K g) : Type 0 where
   pub last : IsSynced facts (string_bytes db.log.name)
@@ -38,23 +38,23 @@ pub record HasSyncedLog {K : Type 0} {g : _} (facts : Facts) (db : OpenDb K g) :
   pub ends : EndsInSync facts
   pub whole : db.broken ≡ false
 
--- So it is behind a write that asks for it, where it is accepted.
+-- The same holds after a write that asks for it, if it succeeds.
 abbrev pub SyncsLogs : {K T : Type 0} {g : _} → Type 0 → Facts → OpenDb K g → Result T DbError → Type 0
 SyncsLogs asked new after result = IsTrue new.faithful → asked → OnOk result (HasSyncedLog new after)
 
 -- ---- what a loss leaves
 
 -- The tables that were there before the open, whose numbers are below that of its MANIFEST, read as
--- they do. (Who wrote them had the device keep them.)
+-- they do. (Who wrote them synced them.)
 abbrev pub LeavesFound : {K : Type 0} {g : _} → Files → Files → OpenDb K g → Type 0
 LeavesFound files lost db = (n : ℕ) → IsNumbered n → n < db.directory.manifest.number → table_at lost n ≡ table_at files n
 
--- Every loss of power until the next call leaves files that hold what the machine accepted, if it
+-- Every power loss until the next call leaves files that hold what the machine accepted, if it
 -- leaves those tables.
 abbrev pub Outlasts : {K : Type 0} {g : _} → Order → Facts → OpenDb K g → Machine → Type 0
 Outlasts order facts db m = (lost : Files) → Lost facts (moment facts) lost → LeavesFound facts.files lost db → Holds order lost m
 
--- So it is behind a write that asks for it, where it is accepted: of whatever the database stands
+-- The same holds after a write that asks for it, if it succeeds: of whatever the database stands
 -- for then.
 abbrev pub DbOutlasts : {S K T : Type 0} {g : _} → Type 0 → Order → (S → Facts) → Db S K g → Result T DbError → Type 0
 DbOutlasts asked order facts new result =
@@ -62,7 +62,7 @@ DbOutlasts asked order facts new result =
 
 -- ---- of a session
 
--- So it is of one whose write was answered so.
+-- The same holds of one whose write was answered so.
 abbrev pub OutlastsOver : {K : Type 0} {g : _} → Type 0 → Order → Seen → Ids → Option (OpenDb K g) → Answer → Type 0
 OutlastsOver asked order source ids None answer = Unit {0}
 OutlastsOver asked order source ids (Some db) answer =
@@ -87,15 +87,15 @@ pub record LeavesCut (order : Order) (facts : Facts) (lost : Files) : Type 0 whe
   pub cut : AreCut facts directory.logs logs
   pub left : IsConsistent order lost (record directory { logs = logs })
 
--- Those of the logs that were there before the open are left as they are which the device isn't
--- known to have whole. (An accepted open has it keep them all: HasKeptLogs.)
+-- Those of the logs that were there before the open are left as they are that aren't known to be
+-- durable whole. (An open that succeeds syncs them all: HasKeptLogs.)
 abbrev pub LeavesFoundLogs : {K : Type 0} {g : _} → Files → Files → OpenDb K g → Type 0
 LeavesFoundLogs files lost db = (n : ℕ) → IsNumbered n → n < db.directory.manifest.number → Contains (map string_bytes db.log.front.items) (name_of (Log n))
     → get lost (name_of (Log n)) ≡ get files (name_of (Log n))
 
--- The files hold the first of the batches that the machine accepted, no fewer than the last write
--- with sync had the device keep, and no others: none is gone in front of one that is there. (A
--- MANIFEST may have recorded that later sequence numbers were used.)
+-- The files hold a prefix of the batches that the machine accepted, no fewer than the last write
+-- with sync synced, and no others: none is gone before one that is there. (A MANIFEST may have
+-- recorded that later sequence numbers were used.)
 pub record HoldsFirst (order : Order) (files : Files) (m : Machine) : Type 0 where
   pub count : ℕ
   pub within : count ≤ length m.batches
@@ -103,7 +103,7 @@ pub record HoldsFirst (order : Order) (files : Files) (m : Machine) : Type 0 whe
   pub used : ℕ
   pub holds : Holds order files (record m { batches = take count m.batches; used = used })
 
--- Every loss of power until the next call leaves so much of an open database that isn't broken,
+-- Every power loss until the next call leaves so much of an open database that isn't broken,
 -- whatever the last call was and answered, if it leaves what the open found.
 abbrev pub LosesEnds : {K : Type 0} {g : _} → Order → Facts → OpenDb K g → Machine → Type 0
 LosesEnds order facts db m = db.broken ≡ false → (lost : Files) → Lost facts (moment facts) lost → LeavesFound facts.files lost db
@@ -112,7 +112,7 @@ LosesEnds order facts db m = db.broken ≡ false → (lost : Files) → Lost fac
 abbrev pub DbLosesEnds : {S K : Type 0} {g : _} → Order → (S → Facts) → Db S K g → Type 0
 DbLosesEnds order facts db = (m : Machine) → m.damaged ≡ false → StandsDb order facts db m → LosesEnds order (facts (db_store_of db)) (open_by db) m
 
--- So it is of one that is open in a session.
+-- The same holds of one that is open in a session.
 abbrev pub LosesEndsOver : {K : Type 0} {g : _} → Order → Seen → Ids → Option (OpenDb K g) → Type 0
 LosesEndsOver order source ids None = Unit {0}
 LosesEndsOver order source ids (Some db) = (m : Machine) → m.damaged ≡ false → StandsOver order source ids (Some db) m → LosesEnds order source.facts db m
@@ -123,21 +123,20 @@ SessionLosesEnds order facts session = LosesEndsOver order (seen_in facts sessio
 -- ---- in the middle of a call
 
 -- Of files with numbers below this one each is synced whole, or the loss has left it whole, or
--- taken it away. (It takes no name away that stays.)
+-- removed it. (It takes no name away that stays.)
 abbrev pub SparesBelow : Facts → ℕ → Files → Type 0
 SparesBelow facts bound lost = (n : ℕ) → IsNumbered n → n < bound
     → IsLeftWhole facts lost (name_of (Table n)) × IsLeftWhole facts lost (name_of (OldTable n)) × IsLeftWhole facts lost (name_of (Log n))
 
--- So are those that were there before the open, whose numbers are below that of its MANIFEST.
+-- The same for those that were there before the open, whose numbers are below that of its MANIFEST.
 abbrev pub SparesFound : {K : Type 0} {g : _} → Facts → OpenDb K g → Files → Type 0
 SparesFound facts db lost = SparesBelow facts db.directory.manifest.number lost
 
--- A loss of power at any moment since old leaves the first of the accepted batches, if it spares
--- these.
+-- A power loss at any moment since old leaves a prefix of the batches, if it spares these.
 abbrev pub LosesFirst : {K : Type 0} {g : _} → Order → Facts → Facts → OpenDb K g → Machine → Type 0
 LosesFirst order old new db m = LosesOnly old new (λ lost. SparesFound old db lost → HoldsFirst order lost m)
 
--- While the store is faithful, so it is from each state without damage of a database that isn't
+-- While the store is faithful, that holds from each state without damage of a database that isn't
 -- broken.
 abbrev pub DbLosesTo : {S K : Type 0} {g : _} → Order → (S → Facts) → Db S K g → Facts → Type 0
 DbLosesTo order facts old new = IsTrue new.faithful → (m : Machine) → m.damaged ≡ false → StandsDb order facts old m → (open_by old).broken ≡ false
@@ -153,8 +152,8 @@ DbLosesWrite order facts operations old new = IsTrue (facts (db_store_of new)).f
 
 -- ---- in the middle of an open
 
--- Where the device has the names that were there, a loss of power that cuts no file short which was
--- there leaves what was accepted, the batch in doubt wholly or not.
+-- If the names that were there are durable, a power loss that truncates no file that was there
+-- leaves what was accepted, the in-doubt batch wholly or not.
 abbrev pub OpenLoses : Order → Facts → Facts → Ids → Type 0
 OpenLoses order old new ids = IsTrue new.faithful → (m : Machine) → m.damaged ≡ false → StandsClosed order old ids m → ((name : List ℕ) → StaysNamed old name)
     → LosesOnly old new (λ lost. LeavesUncut old lost → HoldsAccepted order lost m)
@@ -167,7 +166,7 @@ abbrev pub with_written : Machine → Op → Machine
 with_written m (Write operations sync) = accepted m operations.items false
 with_written m _ = m
 
--- So it is of a command to an open database that isn't broken.
+-- The same holds of a command to an open database that isn't broken.
 abbrev pub LosesOver : {K : Type 0} {g : _} → Order → Facts → Facts → Option (OpenDb K g) → Machine → Type 0
 LosesOver order old new None m = Unit {0}
 LosesOver order old new (Some db) m = db.broken ≡ false → LosesFirst order old new db m

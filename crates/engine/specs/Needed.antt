@@ -36,8 +36,8 @@ pub record HasNeeded (order : Order) (files : Files) (sequences : List ℕ) : Ty
   pub consistent : IsConsistent order files directory
   pub needed : AreNeeded (tabled directory.tables) sequences none_below (tabled directory.tables)
 
--- So it is for the sequence numbers that are read at; and without a snapshot the entries are the
--- pairs of the machine's map, one put each.
+-- The same holds for the sequence numbers that are read at; and without a snapshot the entries are
+-- the pairs of the machine's map, one put each.
 pub record HasOnlyNeeded {K : Type 0} {g : _} (order : Order) (files : Files) (db : OpenDb K g) (m : Machine) : Type 0 where
   pub tables : HasNeeded order files (live_sequences db)
   pub pairs : m.snapshots ≡ [] → ArePairsOf (current m) (tabled tables.directory.tables)

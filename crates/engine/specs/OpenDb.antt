@@ -12,8 +12,8 @@ use Rattle.opening.specs.declared.directory.DirectoryState.{DirectoryState}
 use Rattle.opening.specs.declared.directory.CurrentLog.{CurrentLog}
 use Rattle.engine.specs.declared.state.DbState.{DbState}
 
--- Its memtables, the tables of its version and the compact pointers, the log that writes go to,
--- what it knows of its directory beside, the compaction that is under way, if one is, the last
+-- Its memtables, the tables of its version and the compact pointers, the log that writes go to, and
+-- what it knows of its directory beside. The compaction that is under way, if one is, the last
 -- sequence number that each live snapshot sees, the open iterators, and whether it is broken.
 pub record OpenDb (K : Type 0) (g : _) : Type 0 where
   pub memory : Memories

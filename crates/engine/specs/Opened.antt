@@ -1,4 +1,4 @@
--- What an accepted open leaves of the files (LevelDB's db/db_impl.cc, DB::Open, which removes
+-- What an open that succeeds leaves of the files (LevelDB's db/db_impl.cc, DB::Open, which removes
 -- obsolete files).
 use Rattle.std.specs.Prelude.{◌≡◌, IsTrue, Option, Some}
 use Rattle.memtables.specs.Memories.{Memories}
@@ -10,7 +10,7 @@ use Rattle.engine.specs.declared.state.DbState.{DbState}
 use Rattle.engine.specs.OpenDb.{OpenDb, open_db}
 use Rattle.engine.specs.Working.{HasLiveOnly}
 
--- Unless a call of the store failed, each file of a known shape is live.
+-- Unless a call of the store failed, each file of a known shape is in use.
 abbrev pub OpensTidy : {K : Type 0} {g : _} → Facts → Facts → OpenDb K g → Type 0
 OpensTidy old new db = IsTrue new.faithful → new.failures ≡ old.failures → HasLiveOnly new.files db
 

@@ -11,8 +11,8 @@ use Rattle.store.specs.Files.{Facts, Files}
 use Rattle.engine.specs.Headline.{IsFirst, IsLast}
 use Rattle.engine.specs.Origins.{ComesFrom}
 
--- While the store is faithful: each machine of a directory from which the files at first may come
--- gives these answers to these commands, which may then be refusals as damaged, too; and a
+-- While the store is faithful, take each machine of a directory from which the files at first may
+-- come. It gives these answers to these commands, which may then be refusals as damaged, too. And a
 -- directory from which the files may come then is that of the machine that it comes to.
 abbrev pub OverDamage : Order → Facts → Facts → List Op → List Answer → Type 0
 OverDamage order old new ops answers =

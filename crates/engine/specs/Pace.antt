@@ -22,8 +22,8 @@ OnlyWorks old new = (old.numbers ≤ new.numbers) × (new ≈ record old { numbe
 abbrev pub OnlyDraws : Machine → Machine → Type 0
 OnlyDraws old new = OnlyWorks old new × (new.broken ≡ old.broken)
 
--- Work keeps up with writes: the memtable that takes them has fewer bytes than it may, and
--- level 0 at most three times as many tables as bring a compaction about.
+-- Work keeps up with writes: the memtable that takes them has fewer bytes than it may, and level 0
+-- at most three times as many tables as start a compaction.
 pub record HasKeptUp {K : Type 0} {g : _} (options : OptionValues) (db : OpenDb K g) : Type 0 where
   pub memory : size_of db.memory.current.inserts < options.write_buffer
   pub tables : length (tables_at 0 db.tables) ≤ 3 * options.level0_files
@@ -33,7 +33,7 @@ abbrev pub WorksAtPace : Pace → Machine → Machine → Type 0
 WorksAtPace KeepsUp old new = OnlyDraws old new
 WorksAtPace (Refused error) old new = OnlyWorks old new
 
--- A batch was accepted, and worked on behind that; or it was refused, and nothing was done.
+-- A batch was written, and work was done after it; or the write failed, and nothing was done.
 abbrev pub WritesAtPace : Machine → List Operation → Bool → Result Pace DbError → Machine → Type 0
 WritesAtPace old operations sync (Ok pace) new = (written : Machine) × Writes old operations sync answer.Done written × WorksAtPace pace written new
 WritesAtPace old operations sync (Err error) new = Writes old operations sync (answer.Refused error) new

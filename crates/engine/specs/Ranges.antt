@@ -45,8 +45,8 @@ is_in_range cmp keys key = is_from cmp keys.from key && is_before_end cmp keys.t
 abbrev pub pairs_within : Cmp → KeyRange → List Pair → List Pair
 pairs_within cmp keys pairs = filter (λ (pair : Pair). is_in_range cmp keys pair.0) pairs
 
--- In the order of bytes, what comes first behind all keys that begin so: its last byte below 255 is
--- raised, and nothing stands behind it.
+-- In the order of bytes, what comes first after all keys that begin so: its last byte below 255 is
+-- raised, and nothing stands after it.
 abbrev pub end_of : ℕ → Option (List ℕ) → Option (List ℕ)
 end_of byte (Some end) = Some (byte ∷ end)
 end_of byte None = if nat_lt byte 255 then Some ((byte + 1) ∷ []) else None
@@ -71,7 +71,7 @@ up_to cmp to [] = []
 up_to cmp to (pair ∷ pairs) = if is_before_end cmp to pair.0 then pair ∷ up_to cmp to pairs else []
 
 -- what is left of a walk whose iterator stands so: of one that hasn't begun all of the range, and
--- of any other what is behind its place
+-- of any other what is after its place
 abbrev pub LeftAt : Cmp → Stage → KeyRange → Walk → List Pair → Type 0
 LeftAt cmp Ahead keys at rest = rest ≡ up_to cmp keys.to (drop (start_of cmp keys.from at.pairs) at.pairs)
 LeftAt cmp Within keys at rest = (i : ℕ) × (at.place ≡ Some i) × (rest ≡ up_to cmp keys.to (drop (i + 1) at.pairs))
@@ -108,7 +108,7 @@ next_motion Ahead keys = start_motion keys.from
 next_motion Within keys = ToNext
 next_motion Over keys = ToNext
 
--- What the walk makes of the pair that its iterator came to: a pair at the end or behind it is none
+-- What the walk makes of the pair that its iterator came to: a pair at the end or after it is none
 -- of its own.
 abbrev pub Settles : Cmp → RangeWalk → Option Pair → RangeWalk → Option Pair → Type 0
 Settles cmp old None new result = (result ≡ None) × (new ≡ record old { stage = Over })
@@ -142,7 +142,7 @@ SameWalk old new = (new.id ≡ old.id) × (new.keys ≡ old.keys)
 abbrev pub RefusesFill : Machine → DbError → Machine → Type 0
 RefusesFill old e new = RefusesWalk old e new ⊎ ((e ≡ error.OutOfMemory) × (new ≈ old))
 
--- As many as there are, and no more than this, are put behind those that were there. Of a refusal
+-- As many as there are, and no more than this, are put after those that were there. Of a refusal
 -- too, those that came are put there, and the others are left.
 pub record Fills (order : Order) (limit : ℕ) (old : Machine) (before : RangeWalk) (had : List Pair) (result : Result (Unit {0}) DbError) (new : Machine) (after : RangeWalk) (has : List Pair) : Type 0 where
   pub gives : (rest : List Pair) → HasLeft order old before rest →

@@ -1,5 +1,5 @@
--- Any open behind other calls of the same store, refused or not, whatever they were: what a loss of
--- power leaves in its middle is what it left in front of it.
+-- Any open after other calls of the same store, whether it fails or not, whatever they were: what a
+-- power loss leaves in its middle is what it left before it.
 use Rattle.std.specs.Prelude.{◌≡◌, ◌⊎◌, ◌<◌, ◌≤◌, ◌++◌, ◌∷◌, [], ℕ, List, false, IsSome, IsTrue, Option, Some, None}
 use Rattle.std.specs.FinMap.{get}
 use Rattle.edits.specs.Names.{IsNumbered, name_of}
@@ -51,7 +51,7 @@ pub record KeepsFound {K : Type 0} {g : _} (old new : Facts) (db : OpenDb K g) :
   pub lock : get new.files lock_name ≡ get old.files lock_name
   pub each : StayBelow old new db.directory.manifest.number
 
--- So it is from each state without damage of a database that isn't broken.
+-- That holds from each state without damage of a database that isn't broken.
 abbrev pub DbKeepsFound : {S K : Type 0} {g : _} → Order → (S → Facts) → Db S K g → Db S K g → Type 0
 DbKeepsFound order facts old new = IsTrue (facts (db_store_of new)).faithful → (m : Machine) → m.damaged ≡ false → StandsDb order facts old m → (open_by old).broken ≡ false
     → KeepsFound (facts (db_store_of old)) (facts (db_store_of new)) (open_by old)
@@ -70,18 +70,18 @@ IsFresh db = (db.job ≡ None) × (db.iterators.entries ≡ [])
 
 -- ---- an open
 
--- A loss leaves the first of the batches of a machine, if it spares the files with numbers below
+-- A loss leaves a prefix of the batches of a machine, if it spares the files with numbers below
 -- this one that were there then.
 abbrev pub LeavesFirst : Order → Facts → ℕ → Machine → Files → Type 0
 LeavesFirst order since bound m lost = SparesBelow since bound lost → HoldsFirst order lost m
 
--- If each loss until then does, so does each at any moment since, and until the next call.
+-- If each loss until then does, each does at any moment since, and until the next call.
 abbrev pub LosesOn : Order → Facts → Facts → Type 0
 LosesOn order old new = (since : Facts) (bound : ℕ) (m : Machine) → StaysFound since old bound → LosesOnly old old (LeavesFirst order since bound m)
     → LosesOnly old new (LeavesFirst order since bound m) × StaysFound since new bound
 
--- So it is in the middle of each open of a store that has the lock's file, as it has behind each
--- that was accepted.
+-- The same holds in the middle of each open of a store that has the lock's file, as it has after
+-- each that succeeded.
 abbrev pub OpenLosesOn : Order → Facts → Facts → Ids → Type 0
 OpenLosesOn order old new ids = IsTrue new.faithful → IsSome (get old.files lock_name) → (n : Machine) → n.damaged ≡ false → StandsClosed order old ids n → LosesOn order old new
 
@@ -107,7 +107,7 @@ abbrev pub SessionLosesOn : {S K : Type 0} {g : _} → Order → (S → Facts) �
 SessionLosesOn order facts old new = IsTrue (facts (store_of new)).faithful → IsSome (get (facts (store_of old)).files lock_name) → (m : Machine) → m.damaged ≡ false → Stands order facts old m
     → LosesOn order (facts (store_of old)) (facts (store_of new))
 
--- The logs that an accepted open found are synced whole.
+-- The logs that a successful open found are synced whole.
 abbrev pub KeptOver : {K : Type 0} {g : _} → Facts → Option (OpenDb K g) → Answer → Type 0
 KeptOver facts (Some db) Done = IsTrue facts.faithful → HasKeptLogs facts db.directory
 KeptOver facts state answer = Unit {0}
@@ -119,7 +119,7 @@ abbrev pub KeepsLogsBy : {S K : Type 0} {g : _} → Op → (S → Facts) → Ses
 KeepsLogsBy (Open mode) facts new answer = SessionKeepsLogs facts new answer
 KeepsLogsBy _ facts new answer = Unit {0}
 
--- Nothing is under way behind it.
+-- Nothing is under way after it.
 abbrev pub FreshOver : {K : Type 0} {g : _} → Option (OpenDb K g) → Answer → Type 0
 FreshOver (Some db) Done = IsFresh db
 FreshOver state answer = Unit {0}

@@ -1,4 +1,4 @@
--- What a stop of the process leaves in the middle of a command, and of a run.
+-- What a process crash of the process leaves in the middle of a command, and of a run.
 use Rattle.std.specs.Prelude.{◌≡◌, ◌⊎◌, false, List, [], ◌∷◌, MatchBool, IsTrue}
 use Rattle.batch.specs.declared.operation.Operation.{Operation}
 use Rattle.store.specs.Files.{Facts, Files}
@@ -27,19 +27,19 @@ LeftByWrite order m operations files =
     MatchBool m.broken (HoldsAccepted order files m)
     (MatchBool m.opened (Holds order files m ⊎ Holds order files (accepted m operations false)) (HoldsAccepted order files m))
 
--- Every other command leaves those of what was accepted: an open, too, and one that is refused.
+-- Every other command leaves those of what was accepted: an open, too, and one that fails.
 abbrev pub LeftBy : Order → Machine → Op → Files → Type 0
 LeftBy order m (Write operations sync) files = LeftByWrite order m operations.items files
 LeftBy order m _ files = HoldsAccepted order files m
 
 -- ---- a command of a session
 
--- At any moment since, a stop leaves files that hold what was accepted. (Said of the calls since:
--- so those of two commands compose.)
+-- At any moment since, a process crash leaves files that hold what was accepted. (Said of the calls
+-- since: so those of two commands compose.)
 abbrev pub StopsKeeping : Order → Machine → Facts → Facts → Type 0
 StopsKeeping order m old new = LeavesOnly old new (λ files. HoldsAccepted order files m)
 
--- While the store is faithful, so it is from each state without damage that the session may have
+-- While the store is faithful, that holds from each state without damage that the session may have
 -- been in.
 abbrev pub SessionStops : {S K : Type 0} {g : _} → Order → (S → Facts) → Session S K g → Session S K g → Type 0
 SessionStops order facts old new =
@@ -57,9 +57,9 @@ StopsBy op order facts old new =
 
 -- ---- a run, from files to files
 
--- From the files at its begin to those at its end, by those between its commands: a stop in the
--- middle of a command leaves what that one may, in the state to which the commands in front of it
--- led; a stop behind the last one leaves what was accepted.
+-- From the files at its begin to those at its end, by those between its commands. A process crash
+-- in the middle of a command leaves what that one may, in the state to which the commands before it
+-- led. A process crash after the last one leaves what was accepted.
 abbrev pub StopsEach : Order → Machine → Facts → Facts → List Op → List Answer → Type 0
 StopsEach order m old new [] [] = StopsKeeping order m old new
 StopsEach order m old new (command ∷ commands) (answer ∷ answers) =
@@ -68,9 +68,9 @@ StopsEach order m old new (command ∷ commands) (answer ∷ answers) =
 StopsEach order m old new [] (answer ∷ answers) = ⊥
 StopsEach order m old new (command ∷ commands) [] = ⊥
 
--- While the store is faithful, from each machine of undamaged files at first: a stop at any moment
--- leaves what the commands that were answered by then have accepted, and the batch of the one that
--- it meets as a whole or not at all.
+-- While the store is faithful, from each machine of undamaged files at first. A process crash at
+-- any moment leaves what the commands that were answered by then have accepted, and the batch of
+-- the one that it meets as a whole or not at all.
 abbrev pub StopsRun : Order → Facts → Facts → List Op → List Answer → Type 0
 StopsRun order old new ops answers = IsTrue new.faithful → (first : Machine) → IsFirst order old first → first.damaged ≡ false → StopsEach order first old new ops answers
 

@@ -20,14 +20,14 @@ abbrev pub unit_result : Answer → Result (Unit {0}) DbError
 unit_result (Refused e) = Err e
 unit_result _ = Ok tt
 
--- an open that was accepted
+-- an open that succeeded
 abbrev pub done : Result (Unit {0}) DbError
 done = Ok tt
 
 -- ---- a write
 
--- What was put behind the file of this name is synced where that was asked for. Those in front of
--- it are synced wherever something was put there; nothing else is.
+-- What was put after the file of this name is synced where that was asked for. Those before it are
+-- synced wherever something was put there; nothing else is.
 pub record SyncsLog {T E : Type 0} (some asked : Type 0) (sync : Bool) (name : List ℕ) (front : List (List ℕ)) (old new : Facts) (result : Result T E) : Type 0 where
   pub kept : IsTrue new.faithful → asked → OnOk result (IsSynced new name)
   pub front_kept : IsTrue new.faithful → some → IsNoneOf name front → OnOk result (AllByRecursion (IsSynced new) front)
@@ -48,7 +48,7 @@ abbrev pub log_of : {K : Type 0} {g : _} → Option (OpenDb K g) → List ℕ
 log_of None = []
 log_of (Some state) = string_bytes state.log.name
 
--- and those of the live logs in front of it that the device may not have whole
+-- and those of the logs in use before it that may not be durable whole
 abbrev pub front_of : {K : Type 0} {g : _} → Option (OpenDb K g) → List (List ℕ)
 front_of None = []
 front_of (Some state) = map string_bytes state.log.front.items
@@ -60,25 +60,25 @@ abbrev pub told_failures : DbError → ℕ
 told_failures Io = 1
 told_failures _ = 0
 
--- An accepted open holds the lock. A refused one doesn't, unless it was held before or the store
--- failed to give it back: then it failed once more than the refusal tells.
+-- An open that succeeds holds the lock. One that fails doesn't, unless it was held before or the
+-- store failed to release it: then it failed once more than the refusal tells.
 pub record Locks {T : Type 0} (old new : Facts) (result : Result T DbError) : Type 0 where
   pub locked : OnOk result (new.locked ≡ true)
   pub freed : IfErr result (λ e. new.locked ≡ true → (old.locked ≡ true) ⊎ (old.failures + told_failures e < new.failures))
 
--- Behind an accepted open the file `LOCK` is there. One that was there is left alone, also by an
--- open that is refused.
+-- After an open that succeeds the file `LOCK` is there. One that was there is left alone, also by
+-- an open that fails.
 pub record HasLockFile {T : Type 0} (old new : Facts) (result : Result T DbError) : Type 0 where
   pub there : IsTrue new.faithful → OnOk result (IsSome (get new.files lock_name))
   pub stays : IsTrue new.faithful → IsSome (get old.files lock_name) → LeavesFile old new lock_name
 
--- The lock is given back, unless the store failed to.
+-- The lock is released, unless the store failed to.
 abbrev pub Frees : Facts → Facts → Type 0
 Frees old new = new.locked ≡ true → old.failures < new.failures
 
 -- ---- every command
 
--- Nothing is changed, synced, locked or given back, at any moment, nor was there a call that failed
+-- Nothing is changed, synced, locked or released, at any moment, nor was there a call that failed
 -- at it.
 pub record LeavesStore (old new : Facts) : Type 0 where
   pub writes : FailsNoWrite old new

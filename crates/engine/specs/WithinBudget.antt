@@ -46,8 +46,8 @@ pub record IsNewJob {K : Type 0} {g : _} (cmp : Cmp) (options : OptionValues) (d
   pub picked : IsPicked cmp options.level0_files options.base_bytes (version_of db) work.job.plan
   pub live : IsForLive work db
 
--- A state that the call came through, not broken, with the tables that there were before and what
--- their files held, and with the compaction that was under way, or with a new one.
+-- A state that the call came through, not broken. It has the tables that there were before and what
+-- their files held, and the compaction that was under way, or a new one.
 pub record IsBeforeStep {K : Type 0} {g : _} (order : Order) (options : OptionValues) (old between : Seen) (before mid : OpenDb K g) : Type 0 where
   pub stands : (ids : Ids) (m : Machine) → StandsWhole order old ids before m → (n : Machine) × StandsWhole order between ids mid n
   pub whole : mid.broken ≡ false

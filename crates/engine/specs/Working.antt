@@ -37,8 +37,8 @@ abbrev pub IsFurther : {K : Type 0} {g : _} → OpenJob K g → ℕ → OpenJob 
 IsFurther work merged more = (more.job.plan ≡ work.job.plan) × (more.merged ≡ shown (work.merged + merged)) × (more.job.selection.snapshots ≡ work.job.selection.snapshots) × (more.version ≡ work.version)
 
 -- A compaction was under way. As many entries more of its inputs came as the budget has, one for 0,
--- and it is under way still, with the tables as they were; or all came, and its outputs are in the
--- place of its inputs.
+-- and it is under way still, with the tables as they were. Or all came, and its outputs replace its
+-- inputs.
 pub record GoesOn {K : Type 0} {g : _} (budget : ℕ) (before after : OpenDb K g) : Type 0 where
   pub work : OpenJob K g
   pub was : before.job ≡ Some work
@@ -76,8 +76,7 @@ abbrev pub WantsCompaction : {K : Type 0} {g : _} → OptionValues → OpenDb K 
 WantsCompaction options db level = (level < 6) × Needs options.level0_files options.base_bytes db.tables level
 
 -- The compaction that is most wanted was begun. So many entries of its inputs came, and it keeps
--- the views that are read at, and no others; or all came, and its outputs are in the place of its
--- inputs.
+-- the views that are read at, and no others; or all came, and its outputs replace its inputs.
 pub record BeginsJob {K : Type 0} {g : _} (cmp : Cmp) (options : OptionValues) (budget : ℕ) (before after : OpenDb K g) : Type 0 where
   pub plan : JobPlan
   pub picked : IsPicked cmp options.level0_files options.base_bytes (version_of before) plan
@@ -93,8 +92,8 @@ pub record HasNoWork {K : Type 0} {g : _} (options : OptionValues) (db : OpenDb 
   pub ease : IsAtEase options db
   pub unwanted : (level : ℕ) → WantsCompaction options db level → ⊥
 
--- Work goes on with the compaction under way; writes a table where one is sealed; seals the
--- memtable where that is full; begins the compaction that is most wanted; and else there is none.
+-- Work goes on with the compaction under way, or writes a table if one is sealed, or seals the
+-- memtable if that is full, or begins the compaction that is most wanted. Else there is none.
 abbrev pub DoesWork : {K : Type 0} {g : _} → Cmp → OptionValues → ℕ → OpenDb K g → OpenDb K g → Result Progress DbError → Type 0
 DoesWork cmp options budget before after (Ok progress.Worked) =
     GoesOn budget before after ⊎ WritesTable before after ⊎ ((options.write_buffer ≤ size_of before.memory.current.inserts) × SealsMemory before after) ⊎ Begins cmp options budget before after
@@ -103,17 +102,17 @@ DoesWork cmp options budget before after (Err e) = Unit {0}
 
 -- ---- files
 
--- the numbers of the files that are live
+-- the numbers of the files in use
 abbrev pub numbers_of : DirectoryState → LiveNumbers
 numbers_of state = record { manifest_number = state.manifest.number; log_number = state.first_log; previous_log_number = state.previous_log }
 
 -- `CURRENT`, the lock, the MANIFEST, a log that the directory reads, or a table of the version, of
--- that of an open iterator, or of the compaction under way; of one that has a file under both of
--- its names the one that is read
+-- that of an open iterator, or of the compaction under way. Of a table that has a file under both
+-- of its names it is the one that is read.
 abbrev pub IsLiveIn : {K : Type 0} {g : _} → Files → OpenDb K g → FileName → Type 0
 IsLiveIn files db file = IsLiveAmong files (numbers_of db.directory) (λ number. IsTableUsed db.tables db.job db.iterators number) file
 
--- Each file of a known shape is live.
+-- Each file of a known shape is in use.
 abbrev pub HasLiveOnly : {K : Type 0} {g : _} → Files → OpenDb K g → Type 0
 HasLiveOnly files db = (file : FileName) → IsFileName file → contains_key files (name_of file) ≡ true → IsLiveIn files db file
 

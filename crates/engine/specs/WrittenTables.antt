@@ -43,21 +43,21 @@ pub record HasFlushed {K : Type 0} {g : _} (order : Order) (files : Files) (entr
   pub has : HasTable order files content
   pub entries_are : SameEntries content.entries entries
 
--- While the store is faithful, so it is of the entries of the sealed memtable, unless there are
--- none.
+-- While the store is faithful, the same holds of the entries of the sealed memtable, unless there
+-- are none.
 abbrev pub PutsSealed : {K : Type 0} {g : _} → Order → Seen → Seen → OpenDb K g → OpenDb K g → Type 0
 PutsSealed order old new before after =
     IsTrue new.facts.faithful → (ids : Ids) (m : Machine) → StandsWhole order old ids before m → (sealed_inserts before.memory ≡ []) ⊎ HasFlushed order new.facts.files (sealed_inserts before.memory) before after
 
--- So it is behind a call of work in front of which a memtable was sealed, and no compaction
--- under way.
+-- The same holds after a call of work before which a memtable was sealed, and no compaction under
+-- way.
 abbrev pub FlushesSealed : {K : Type 0} {g : _} → Order → Seen → Seen → OpenDb K g → OpenDb K g → Result Progress DbError → Type 0
 FlushesSealed order old new before after result = result ≡ Ok Worked → before.job ≡ None → IsSome before.memory.sealed → PutsSealed order old new before after
 
 -- ---- of a compaction
 
--- Tables of its output level have come in the place of its inputs. Their files have exactly those
--- of the inputs' entries that must be kept for its sequence numbers.
+-- Tables of its output level have come instead of its inputs. Their files have exactly those of the
+-- inputs' entries that must be kept for its sequence numbers.
 pub record HasMerged {K : Type 0} {g : _} (order : Order) (old new : Files) (work : OpenJob K g) (before after : OpenDb K g) : Type 0 where
   pub inputs : List TableContent
   pub outputs : List TableContent
@@ -74,15 +74,15 @@ abbrev pub PutsMerged : {K : Type 0} {g : _} → Order → Seen → Seen → Ope
 PutsMerged order old new before after =
     MatchOption before.job ⊥ (λ work. IsTrue new.facts.faithful → (ids : Ids) (m : Machine) → StandsWhole order old ids before m → HasMerged order old.facts.files new.facts.files work before after)
 
--- While the store is faithful: the call came through a state in which the compaction of this plan
--- had just begun, for the sequence numbers that are read at, and that is what it has become.
+-- While the store is faithful, the call came through a state in which the compaction of this plan
+-- had just begun, for the sequence numbers that are read at. That is what it has become.
 abbrev pub MergesPlan : {K : Type 0} {g : _} → Order → JobPlan → Seen → Seen → OpenDb K g → OpenDb K g → Type 0
 MergesPlan {K} {g} order plan old new before after =
     IsTrue new.facts.faithful → (between : Seen) × (mid : OpenDb K g) × ((ids : Ids) (m : Machine) → StandsWhole order old ids before m → (n : Machine) × StandsWhole order between ids mid n)
     × (mid.tables ≡ before.tables) × MatchOption mid.job ⊥ (λ work. (work.job.plan ≡ plan) × IsForLive work before) × PutsMerged order between new mid after
 
--- So it is of a compaction of a level, unless the level had no table. The one under way, if one
--- was, had come to its end in front of it.
+-- The same holds of a compaction of a level, unless the level had no table. The one under way, if
+-- one was, had come to its end before it.
 abbrev pub MergesLevel : {K : Type 0} {g : _} → Order → ℕ → Seen → Seen → OpenDb K g → OpenDb K g → Type 0
 MergesLevel {K} {g} order level old new before after =
     IsTrue new.facts.faithful → (between : Seen) × (mid : OpenDb K g) × ((ids : Ids) (m : Machine) → StandsWhole order old ids before m → (n : Machine) × StandsWhole order between ids mid n)

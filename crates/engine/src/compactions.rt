@@ -37,8 +37,8 @@ impl<K: KeyOrder> DbState<K> {
     ghost use Rattle.versions.specs.Plans.{IsPlanOf, IsWholePlan};
 
     /// Ends the compaction under way, and then compacts all tables of a level into the next one,
-    /// with the tables there whose keys overlap theirs. It moves no compact pointer. BadLevel: the
-    /// level isn't one of 0 to 5.
+    /// with the tables there whose keys overlap theirs. It moves no compact pointer, and removes no
+    /// file, so that it needs no memory to list them. BadLevel: the level isn't one of 0 to 5.
     pub fn compact_level<S: Store>(
         &mut self,
         alloc: Global,
@@ -72,7 +72,7 @@ impl<K: KeyOrder> DbState<K> {
     }
 
     /// Ends the compaction under way, writes what is in memory into tables, and then compacts all
-    /// tables into the last level. It moves no compact pointer.
+    /// tables into the last level. It moves no compact pointer, and removes no file.
     pub fn compact_all<S: Store>(
         &mut self,
         alloc: Global,

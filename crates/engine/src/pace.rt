@@ -85,10 +85,8 @@ impl<S: Store, K: KeyOrder> Db<S, K> {
         Some(self.state.version.level(level).len())
     }
 
-    /// Writes a batch, as `write` does, and then does its share of the work. The share is done
-    /// after each 64 operations, or each sixteenth of `write_buffer`: six entries for each
-    /// operation, more if work lags, and whatever else it takes until work keeps up. So a caller
-    /// needs no `work` beside it, and memory and level 0 are bounded; the call takes longer
+    /// Writes a batch, as `write` does, and then does some of the work, until work keeps up. So a
+    /// caller needs no `work` beside it, and memory and level 0 are bounded; the call takes longer
     /// instead. (LevelDB's db/db_impl.cc, DBImpl::MakeRoomForWrite, waits there.) It fails as
     /// `write` does; if only the work fails, the batch is written and the `Pace` says so.
     pub fn write_and_work(

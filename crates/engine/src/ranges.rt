@@ -1,4 +1,4 @@
-//! Walks over the pairs whose keys lie in a range, above the iterators of a database.
+//! Iterations over the pairs whose keys lie in a range, above the iterators of a database.
 
 ghost use Rattle.std.specs.Prelude.{◌≡◌, ◌<◌, ◌↔◌, ◌+◌, ◌++◌, ◌∷◌, [], ℕ, List, All, Some, None, IfOk, IsTrue, OnErr, MatchBool, MatchResult};
 ghost use Rattle.std.specs.Cmp.Lexicographic.{slice_cmp};
@@ -142,7 +142,7 @@ impl RangeWalk {
     ghost use Rattle.engine.specs.Ranges.{Settles};
     ghost use Rattle.engine.specs.declared.ranges.Stage.TheVariants.{Over};
 
-    /// Lets a walk go whose database was closed, which gave up all iterators.
+    /// Forgets an iteration whose database was closed, which released all iterators.
     pub fn forget(self) {
         let RangeWalk {
             id: _,
@@ -199,7 +199,7 @@ impl<S: Store, K: KeyOrder> Db<S, K> {
     ghost use Rattle.engine.specs.Ranges.{Begins, Fills, MayRefuseScan, RefusesScan, SameWalk, Scans, Steps, next_motion};
     ghost use Rattle.engine.specs.StandsDb.{FollowsDb, KeepsOpening, db_ids_of, db_store_of, open_by};
 
-    /// Begins a walk over the pairs of a range, as they are now or at a snapshot. It takes an
+    /// Begins an iteration over the pairs of a range, as they are now or at a snapshot. It takes an
     /// iterator, and goes on seeing the same pairs whatever is written.
     pub fn range(
         &mut self,

@@ -1,4 +1,4 @@
--- Hashes of filters, one filter's behind the other's.
+-- Hashes of filters, one filter's after the other's.
 use Rattle.std.proofs.Common.{◌≡◌, ℕ, zero, suc, ◌+◌, ◌-◌, ◌<◌, ◌≤◌, List, [], ◌∷◌, ◌++◌, length, get_or, set, take, drop, refl, sym, ap, ◌∙◌, append_assoc, replicate, arith}
 use Rattle.std.specs.List.{insert}
 use Rattle.std.proofs.lemmas.List.{length-append, length-drop, take_more, take_all, drop_all, replicate_more, length-replicate}

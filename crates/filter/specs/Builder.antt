@@ -21,7 +21,7 @@ AreFilters [] [] = Unit {0}
 AreFilters (hashes ∷ groups) (filter ∷ filters) = IsFilter hashes filter × AreFilters groups filters
 AreFilters groups filters = ⊥
 
--- where each filter begins, behind those before it
+-- where each filter begins, after those before it
 abbrev pub starts_of : ℕ → List (List ℕ) → List ℕ
 starts_of start [] = []
 starts_of start (filter ∷ filters) = start ∷ starts_of (start + length filter) filters

@@ -1,4 +1,4 @@
--- Hashes of filters, one filter's behind the other's.
+-- Hashes of filters, one filter's after the other's.
 use Rattle.std.specs.Prelude.{◌+◌, ℕ, List, [], ◌∷◌, take, drop}
 
 -- the hashes of each filter, where so many are each one's

@@ -12,7 +12,7 @@ use Rattle.ikey.specs.Keys.{Key, IsKey, tag_of}
 use Rattle.ikey.specs.Below.{IsBelowInternal}
 use Rattle.ikey.proofs.Words.{less-is, tied-is}
 
--- behind the same front a smaller byte comes first
+-- after the same front a smaller byte comes first
 less-behind : (k : ℕ) (xs rest : List ℕ) → k < length xs → 0 < length rest → get_or xs k 0 < get_or rest 0 0 → slice_cmp nat_cmp xs (take k xs ++ rest) ≡ Less
 less-behind k [] rest p q lt = absurd (omega (arith, p))
 less-behind zero (x ∷ xs) [] p q lt = absurd (omega (arith, q))
@@ -28,7 +28,7 @@ plainly-behind k xs rest x y p q e f = decided (nat_lt x y) refl
     decided true t = less-behind k xs rest p q (omega (arith, e, f, ltb-true x y t))
     decided false t = tt
 
--- So it is with internal keys that share a part of the user key.
+-- The same holds for internal keys that share a part of the user key.
 internal-behind : (cmp : List ℕ → List ℕ → Ordering) (a rest : List ℕ) (shared : ℕ) (k n : Key) → IsKey a k → IsKey rest n → shared ≤ length k.user
     → cmp k.user (take shared k.user ++ n.user) ≡ Less → IsBelowInternal cmp a (take shared a ++ rest)
 internal-behind cmp a rest shared k n h j le less =

@@ -42,7 +42,7 @@ front-less (suc k) n (x ∷ xs) (y ∷ ys) h j lt =
     by (inr (inl l)) rest = ap (λ (o : Ordering). ordering_then o (slice_cmp nat_cmp xs ys)) (less-is x y l)
     by (inr (inr g)) rest = absurd (omega (arith, lt, rises k (n * 256 + y) (n * 256 + x) ys xs (λ i. j (suc i)) (omega (arith, g))))
 
--- a greater one comes behind
+-- a greater one comes after
 pub front-greater : (k n : ℕ) (xs ys : List ℕ) → AreBytes xs → AreBytes ys → spelled k n ys < spelled k n xs → slice_cmp nat_cmp xs ys ≡ Greater
 front-greater zero n xs ys h j lt = absurd (omega (arith, lt))
 front-greater (suc k) n [] [] h j lt = absurd (omega (arith, lt))
@@ -56,7 +56,7 @@ front-greater (suc k) n (x ∷ xs) (y ∷ ys) h j lt =
     by (inr (inl l)) rest = absurd (omega (arith, lt, rises k (n * 256 + x) (n * 256 + y) xs ys (λ i. h (suc i)) (omega (arith, l))))
     by (inr (inr g)) rest = ap (λ (o : Ordering). ordering_then o (slice_cmp nat_cmp xs ys)) (greater-is x y g)
 
--- behind the same bytes keys are ordered as they are
+-- after the same bytes keys are ordered as they are
 pub behind-shared : (shared xs ys : List ℕ) → slice_cmp nat_cmp (shared ++ xs) (shared ++ ys) ≡ slice_cmp nat_cmp xs ys
 behind-shared [] xs ys = refl
 behind-shared (byte ∷ shared) xs ys =

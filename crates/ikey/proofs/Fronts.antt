@@ -67,7 +67,7 @@ lengths-decide (suc m) (x ∷ xs) (y ∷ ys) s e =
 room : (m : ℕ) (xs : List ℕ) → m + 8 ≤ length xs → 8 ≤ length (drop m xs)
 room m xs p = omega (arith, p, length-drop m xs)
 
--- a smaller word behind the same front
+-- a smaller word after the same front
 pub less-at : (m : ℕ) (xs ys : List ℕ) → m + 8 ≤ length xs → m + 8 ≤ length ys → AreBytes xs → AreBytes ys → Agree m xs ys
     → big_endian 0 (take 8 (drop m xs)) < big_endian 0 (take 8 (drop m ys)) → slice_cmp nat_cmp xs ys ≡ Less
 less-at m xs ys p q h j e lt =

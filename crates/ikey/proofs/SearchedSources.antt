@@ -222,12 +222,12 @@ all_joined : (P : Entry → Type 0) (lists : List (List Entry)) → AllByRecursi
 all_joined P [] h = tt
 all_joined P (xs ∷ lists) h = all_both P xs (joined lists) h.0 (all_joined P lists h.1)
 
--- of what lies behind a list in a row
+-- of what lies after a list in a row
 behind_row : (order : Order) (before : List (List Entry)) (entries : List Entry) (behind : List (List Entry)) → AreInRow order (before ++ entries ∷ behind) → ComesAllBefore order entries (joined behind)
 behind_row order [] entries behind h = before_joined order entries behind h.1
 behind_row order (xs ∷ before) entries behind h = behind_row order before entries behind h.2
 
--- an entry of them all stands in front, in the list, or behind it
+-- an entry of them all stands in front, in the list, or after it
 among_row : (before : List (List Entry)) (entries : List Entry) (behind : List (List Entry)) (e : Entry) → Among (joined (before ++ entries ∷ behind)) e → Among (joined before) e ⊎ (Among entries e ⊎ Among (joined behind) e)
 among_row [] entries behind e i = inr (among_split entries (joined behind) e i)
 among_row (xs ∷ before) entries behind e i = elim (among_split xs (joined (before ++ entries ∷ behind)) e i) [
@@ -242,7 +242,7 @@ in_row_of : (before : List (List Entry)) (entries : List Entry) (behind : List (
 in_row_of [] entries behind e i = among_front entries (joined behind) e i
 in_row_of (xs ∷ before) entries behind e i = among_back xs (joined (before ++ entries ∷ behind)) e (in_row_of before entries behind e i)
 
--- an entry of the key that comes behind one that doesn't come before what is sought: that one is of
+-- an entry of the key that comes after one that doesn't come before what is sought: that one is of
 -- the key too, and seen
 last_seen : (order : Order) (last other : Entry) (sequence : ℕ) (key : List ℕ) → (ComesBeforeSought order sequence key last → ⊥) → ComesBefore order last other → other.key ≡ key → (last.key ≡ key) × (last.sequence ≤ sequence)
 last_seen order last other sequence key not (inl less) same = absurd (not (inl (subst (λ (k : List ℕ). order.cmp last.key k ≡ Less) same less)))

@@ -48,7 +48,7 @@ word-less (suc k) n (x ∷ xs) (y ∷ ys) p q h j lt =
     by (inr (inl l)) rest = ap (λ (o : Ordering). ordering_then o (slice_cmp nat_cmp xs ys)) (less-is x y l)
     by (inr (inr g)) rest = absurd (omega (arith, lt, rises k (n * 256 + y) (n * 256 + x) ys xs (omega (arith, q)) (omega (arith, p)) (λ i. j (suc i)) (omega (arith, g))))
 
--- a greater one comes behind
+-- a greater one comes after
 pub word-greater : (k n : ℕ) (xs ys : List ℕ) → k ≤ length xs → k ≤ length ys → AreBytes xs → AreBytes ys
     → big_endian n (take k ys) < big_endian n (take k xs) → slice_cmp nat_cmp xs ys ≡ Greater
 word-greater zero n xs ys p q h j lt = absurd (omega (arith, lt))

@@ -22,7 +22,7 @@ Tells cmp a b Less = cmp a b ≡ Less
 Tells cmp a b Equal = ⊤
 Tells cmp a b Greater = cmp a b ≡ Greater
 
--- what two fronts tell of the keys that have them, and also of keys in which these stand behind the
+-- what two fronts tell of the keys that have them, and also of keys in which these stand after the
 -- same bytes
 abbrev pub Decides : (List ℕ → List ℕ → Ordering) → Front → Front → Ordering → Type 0
 Decides cmp a b told = (shared x y : List ℕ) → IsFront a x → IsFront b y → Tells cmp (shared ++ x) (shared ++ y) told

@@ -10,7 +10,7 @@ use Rattle.ikey.specs.Views.{Among, Contents, IsNewest, IsUnseen, IsView, IsValu
 
 -- ---- sources
 
--- of the same key the entries in front are newer than those behind
+-- of the same key the entries of the first are newer than those of the second
 abbrev pub IsNewerThan : List Entry → List Entry → Type 0
 IsNewerThan front back = (a b : Entry) → Among front a → Among back b → a.key ≡ b.key → b.sequence < a.sequence
 
@@ -19,7 +19,7 @@ abbrev pub joined : List (List Entry) → List Entry
 joined [] = []
 joined (source ∷ sources) = source ++ joined sources
 
--- each source is newer than all behind it
+-- each source is newer than all after it
 abbrev pub AreSearched : List (List Entry) → Type 0
 AreSearched [] = Unit {0}
 AreSearched (source ∷ sources) = IsNewerThan source (joined sources) × AreSearched sources
@@ -49,7 +49,7 @@ IsAnswer source sequence key (Some value) = (entry : Entry) × IsNewest source s
 abbrev pub FrontLaw : Type 0
 FrontLaw = (front back : List Entry) (sequence : ℕ) (entry : Entry) → IsNewerThan front back → IsNewest front sequence entry → IsNewest (front ++ back) sequence entry
 
--- Where the key isn't seen in front, it has the value that it has behind.
+-- Where the key isn't seen in the first source, it has the value that it has in the second.
 abbrev pub BehindLaw : Type 0
 BehindLaw = (front back : List Entry) (sequence : ℕ) (key : List ℕ) (value : Option (List ℕ)) → IsUnseen front sequence key
     → IsValueAt back sequence key value → IsValueAt (front ++ back) sequence key value
@@ -67,7 +67,7 @@ MissedLaw = (sources : List (List Entry)) (sequence : ℕ) (key : List ℕ) → 
 
 -- ---- what keeps sources searched
 
--- Sources of which each is newer than each one behind it are searched.
+-- Sources of which each is newer than each one after it are searched.
 abbrev pub ByTwoLaw : Type 0
 ByTwoLaw = (sources : List (List Entry)) → AreSearched sources ↔ AreSearchedByTwo sources
 
@@ -92,7 +92,7 @@ SameViewLaw = (xs ys : List Entry) (sequence : ℕ) → SameEntries xs ys → ((
 abbrev pub ComesBefore : Order → Entry → Entry → Type 0
 ComesBefore order a b = (order.cmp a.key b.key ≡ Less) ⊎ ((a.key ≡ b.key) × (b.sequence < a.sequence))
 
--- each entry comes before all behind it, so that no two share a key and a sequence number
+-- each entry comes before all after it, so that no two share a key and a sequence number
 abbrev pub AreSorted : Order → List Entry → Type 0
 AreSorted order [] = Unit {0}
 AreSorted order (entry ∷ entries) = ((other : Entry) → Among entries other → ComesBefore order entry other) × AreSorted order entries
@@ -120,7 +120,7 @@ AllBeforeLaw = (order : Order) (entries : List Entry) (sequence : ℕ) (key : Li
 abbrev pub ComesAllBefore : Order → List Entry → List Entry → Type 0
 ComesAllBefore order xs ys = (a b : Entry) → Among xs a → Among ys b → ComesBefore order a b
 
--- each is sorted, and comes before all behind it
+-- each is sorted, and comes before all after it
 abbrev pub AreInRow : Order → List (List Entry) → Type 0
 AreInRow order [] = Unit {0}
 AreInRow order (entries ∷ lists) = AreSorted order entries × AllByRecursion (ComesAllBefore order entries) lists × AreInRow order lists

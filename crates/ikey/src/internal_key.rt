@@ -56,7 +56,7 @@ fn tag_of(sequence: u64, kind: Kind) -> u64
 
 /// Returns the internal key that the bytes are; its user key is a part of them (LevelDB's
 /// db/dbformat.h, ParseInternalKey). None: there are fewer than eight bytes, or the kind is neither
-/// 0 nor 1.
+/// 0 nor 1. Callers make that Corrupt.
 pub fn unpack(bytes: &[u8]) -> Option<InternalKey<'_>>
     ensures range { IfSome result (λ key. key.sequence < 2 ^ 56) }
     ensures found { IfSome result (λ key. IsKey bytes.now (key_of key)) }

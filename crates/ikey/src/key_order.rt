@@ -55,7 +55,8 @@ pub trait KeyOrder {
     ghost name_fits: { length name < 2 ^ 32 };
 }
 
-/// Orders by the first byte that differs; a proper prefix comes first.
+/// Orders by the first byte that differs; a proper prefix comes first. It compares words of eight
+/// bytes.
 pub struct Bytewise;
 
 impl KeyOrder for Bytewise {

@@ -78,7 +78,7 @@ module _ (order : Order) (total : IsTotalOrder order.cmp) where
   before_kept : (a b : InternalEntry) → ComesBefore order (entry_of a) (entry_of b) → key_cmp order.cmp a.key b.key ≡ Less
   before_kept a b before = (λ i. key_cmp order.cmp (sym (key_again a) i) (sym (key_again b) i)) ∙ before_less (entry_of a) (entry_of b) before
 
-  -- ---- no entry behind the last
+  -- ---- no entry after the last
 
   ends_all : (last : Entry) (largest : List ℕ) → IsKey largest (internal_key_of last) → (kept : List InternalEntry) → ((other : Entry) → Among (map entry_of kept) other → (other ≡ last) ⊎ ComesBefore order other last)
       → EndsBy order.cmp largest kept
@@ -139,7 +139,7 @@ module _ (order : Order) (total : IsTotalOrder order.cmp) where
       back : (other : Entry) → Among (map entry_of kept) other → Among content.entries other
       back other i = subst (λ (es : List Entry). Among es other) (sym e) i
 
-  -- ---- lists one behind the other
+  -- ---- lists one after the other
 
   rises_append : (xs ys : List InternalEntry) → Rises order.cmp xs → Rises order.cmp ys → ((x y : InternalEntry) → Among xs x → Among ys y → key_cmp order.cmp x.key y.key ≡ Less) → Rises order.cmp (xs ++ ys)
   rises_append [] ys r s less = s

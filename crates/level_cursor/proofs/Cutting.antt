@@ -40,7 +40,7 @@ leading_most cmp key list n entry splits at fails = elim (cases_lt n (leading (i
   | inl less ↦ absurd (let bad : true ≡ false = sym ((splits n entry at).0 less) ∙ fails in cc)
 ]
 
--- the same place is in the list, or both are behind it
+-- the same place is in the list, or both are after it
 same_or_past : (entries : List InternalEntry) (a b : ℕ) → within entries a ≡ within entries b → (a ≡ b) ⊎ ((length entries ≤ a) × (length entries ≤ b))
 same_or_past entries a b e = elim (within_cases entries a) [
   | inl x ↦ elim (within_cases entries b) [
@@ -72,7 +72,7 @@ same_cut cmp lists its cut index count list at inner outer entry member =
     ]
 
 module _ (cmp : Cmp) (source : Seen) (row : List PlacedTable) (lists : List (List InternalEntry)) (have : HaveLists cmp source row lists) where
-  -- a cut in front of which so many entries lie
+  -- a cut before which so many entries lie
   pub lies_in : (cut : Cut) (index count : ℕ) → entries_before lists index ≤ count → count ≤ entries_before lists (suc index) → SplitsAt cmp (joined lists) cut count → LiesIn cmp row index cut
   lies_in cut index count low high splits = record {
     front = λ k placed key less at is.
@@ -113,7 +113,7 @@ module _ (cmp : Cmp) (source : Seen) (row : List PlacedTable) (lists : List (Lis
   pub first_ends : (list : List InternalEntry) → slice_get lists 0 ≡ Some list → EndsIn cmp row 0 list None Front
   first_ends list at = ends_first Front 0 list at (subst (λ (n : ℕ). SplitsAt cmp (joined lists) Front n) (sym (before_zero lists)) (splits_first cmp (joined lists)))
 
-  -- a search for the last entry in front of a table
+  -- a search for the last entry before a table
   ends_back : (cut : Cut) (index : ℕ) (list : List InternalEntry) → slice_get lists index ≡ Some list → SplitsAt cmp (joined lists) cut (entries_before lists (suc index)) → EndsBackIn cmp row index list cut
   ends_back cut index list at splits =
       let up = before_up lists index (suc index) (omega arith) in
@@ -211,7 +211,7 @@ module _ {K : Type 0} {g : _} (cmp : Cmp) (source : Seen) (lists : List (List In
   pub prev_same : prev_cut (listed h.list (Some h.inside)) ≡ prev_cut (listed (joined lists) place)
   prev_same = prev_at (listed h.list (Some h.inside)) h.inside its_own.0 refl its_own.1 ∙ sym (prev_at (listed (joined lists) place) (entries_before lists here.index + h.inside) its_own.0 h.place_is in_all)
 
--- ---- where a step, and a search behind it, are refused
+-- ---- where a step, and a search after it, fail
 
 module _ {K : Type 0} {g : _} (cmp : Cmp) (source : Seen) (row : List PlacedTable) (total : IsTotalOrder cmp) (here : Option (InTable K g)) (at : Listed) (h : ListsTables cmp source row here at) where
   rises_all : Rises cmp (joined h.lists)

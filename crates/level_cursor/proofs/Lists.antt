@@ -1,4 +1,4 @@
--- Entries of several lists, one list behind the other.
+-- Entries of several lists, one list after the other.
 use Rattle.std.proofs.Common.{◌≡◌, ◌<◌, ◌≤◌, ◌+◌, ◌++◌, ℕ, zero, suc, Bool, true, false, cond, List, [], ◌∷◌, Some, None, get_or, length, drop, refl, sym, ap, ◌∙◌, subst, arith}
 use Rattle.std.proofs.lemmas.List.{length-append}
 use Rattle.std.specs.List.{slice_get, AllByRecursion}
@@ -95,7 +95,7 @@ module _ (test : InternalEntry → Bool) where
   all_pass [] h = omega arith
   all_pass (x ∷ xs) h = pass_at (test x) (length xs) (leading test xs) h.0 (all_pass xs h.1)
 
-  -- where all of the list at this index pass, the search goes on behind it
+  -- where all of the list at this index pass, the search goes on after it
   pub passed_list : (lists : List (List InternalEntry)) (i : ℕ) (list : List InternalEntry) → slice_get lists i ≡ Some list → length list ≤ leading test list
       → entries_before lists i + leading test (joined (drop i lists)) ≡ entries_before lists (suc i) + leading test (joined (drop (suc i) lists))
   passed_list lists i list e h =
@@ -108,7 +108,7 @@ module _ (test : InternalEntry → Bool) where
       → entries_before lists i + leading test (joined (drop i lists)) ≡ entries_before lists i + leading test list
   ended_in lists i list e h = let there = ap (leading test) (drop_at lists i list e) ∙ leading_within list (joined (drop (suc i) lists)) h in omega (arith, there)
 
-  -- behind all lists
+  -- after all lists
   pub ended_past : (lists : List (List InternalEntry)) (i : ℕ) → length lists ≤ i → entries_before lists i + leading test (joined (drop i lists)) ≡ length (joined lists)
   ended_past lists i h =
       let none : leading test (joined (drop i lists)) ≡ 0 = ap (leading test) (drop_past lists i h) in

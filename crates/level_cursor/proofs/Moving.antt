@@ -154,7 +154,7 @@ module _ {K : Type 0} {g : _} {numbers : ℕ → Type 0} (cmp : Cmp) (old new : 
 
 -- ---- steps within a table
 
--- whether the list has an entry behind
+-- whether the list has a next entry
 behind_if : (list : List InternalEntry) (n : ℕ) → is_some (within list n) ≡ true → n < length list
 behind_if list n some = elim (within_cases list n) [
   | inl h ↦ h.0

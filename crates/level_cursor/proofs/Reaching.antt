@@ -1,4 +1,4 @@
--- Where the entries of a table stand below a key, and those in front of it.
+-- Where the entries of a table stand below a key, and those before it.
 use Rattle.std.proofs.Common.{◌≡◌, ◌<◌, ◌+◌, ◌++◌, ℕ, zero, suc, true, false, List, [], ◌∷◌, Some, None, length, drop, refl, sym, ap, ◌∙◌, subst, arith}
 use Rattle.std.specs.Cmp.{IsTotalOrder}
 use Rattle.std.specs.List.{slice_get, AllByRecursion}
@@ -69,7 +69,7 @@ module _ (cmp : Cmp) (total : IsTotalOrder cmp) (key : Key) where
   all_of [] h = tt
   all_of (x ∷ xs) h = (h 0 x refl, all_of xs (λ i e at. h (suc i) e at))
 
-  -- Where the entries of a list that has some are below the key, so are all in front of it.
+  -- Where the entries of a list that has some are below the key, so are all before it.
   pub front_below : (lists : List (List InternalEntry)) (k : ℕ) (list : List InternalEntry) → Rises cmp (joined lists) → slice_get lists k ≡ Some list → 0 < length list → AllByRecursion IsBelow list
       → leading (is_below cmp key) (joined lists) ≡ entries_before lists (suc k) + leading (is_below cmp key) (joined (drop (suc k) lists))
   unfolding entries_before

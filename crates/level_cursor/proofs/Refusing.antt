@@ -25,7 +25,7 @@ use Rattle.table.specs.Frame.{AnyLong, Frame, handles}
 use Rattle.table.specs.Reading.{Reads}
 use Rattle.table.specs.Refusals.{IsFrameDamaged, IsFrameUnsupported}
 
--- what a call behind others refuses, for a reason that stands from the beginning
+-- what a call after others refuses, for a reason that stands from the beginning
 pub refused_later : (e : DbError) (old mid new : Facts) (a b limit limited : Type 0) → Reads old mid → Reads mid new → (IsTrue mid.faithful → a → b) → (IsTrue mid.faithful → limit → b ⊎ limited) → Refuses e mid new a limit
     → Refuses e old new b limited
 refused_later OutOfMemory old mid new a b limit limited first second f l h = tt
@@ -93,7 +93,7 @@ torn_before cmp old now row cut carries t one = record {
   torn = λ file has. one.torn file (still_has cmp old now one.placed.table.number file carries t has);
 }
 
--- a cursor that was opened in one of them behind other reads
+-- a cursor that was opened in one of them after other reads
 pub one_opened : {numbers others : ℕ → Type 0} (cmp : Cmp) (old now new : Seen) (row : List PlacedTable) (index : ℕ) (placed opened : PlacedTable) (frame : Frame) → Carries cmp numbers old now → Carries cmp others now new → slice_get row index ≡ Some placed → opened ≡ placed
     → SaysOf cmp now new placed.table.number (λ file. IsOpenFrame cmp file frame) → IsOneOf cmp old new row index opened frame
 one_opened cmp old now new row index placed opened frame first second there same says =

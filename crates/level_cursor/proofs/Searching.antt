@@ -28,7 +28,7 @@ use Rattle.table.specs.Frame.{Frame}
 
 -- ---- what is kept anew
 
--- behind tables of the row, one of them is read
+-- after tables of the row, one of them is read
 pub read_one : (cmp : Cmp) (old now new : Seen) (row : List PlacedTable) (placed : PlacedTable) → Contains row placed → Carries cmp (ListsNumber row) old now → Carries cmp (Only placed.table.number) now new → Carries cmp (ListsNumber row) old new
 read_one cmp old now new row placed there first second = carries_both cmp old now new first (carries_more cmp now new (λ number same. (placed, there, sym same)) second)
 

@@ -25,7 +25,7 @@ use Rattle.table.specs.Refusals.{IsFrameDamaged}
 abbrev pub joined : List (List InternalEntry) → List InternalEntry
 joined lists = flat_map (λ (list : List InternalEntry). list) lists
 
--- how many entries lie in the tables in front of this one
+-- how many entries lie in the tables before this one
 unfoldable pub entries_before : List (List InternalEntry) → ℕ → ℕ
 entries_before [] index = zero
 entries_before (list ∷ lists) zero = zero
@@ -33,12 +33,12 @@ entries_before (list ∷ lists) (suc index) = length list + entries_before lists
 
 -- ---- what the tables hold
 
--- no entry comes behind the key
+-- no entry comes after the key
 abbrev pub EndsBy : Cmp → List ℕ → List InternalEntry → Type 0
 EndsBy cmp key entries = AllByRecursion (λ (entry : InternalEntry). (bytes : List ℕ) → IsKey bytes entry.key → IsBelowInternal cmp key bytes → ⊥) entries
 
--- The source has this table of an edit, which may have these entries, as far as its blocks tell;
--- they have the edit's keys at their ends, so that none comes behind the largest.
+-- The source has this table of an edit, which may have these entries, as far as its blocks tell.
+-- They have the edit's keys at their ends, so that none comes after the largest.
 pub record HasList (cmp : Cmp) (source : Seen) (placed : PlacedTable) (entries : List InternalEntry) : Type 0 where
   pub positive : 0 < placed.table.number
   pub file : List ℕ
@@ -121,8 +121,8 @@ IsTornFile cmp placed file cut = IsFrameDamaged cmp file ⊎ ((frame : Frame) ×
 abbrev pub IsTornOne : Cmp → Seen → PlacedTable → Cut → Type 0
 IsTornOne cmp source placed cut = (file : List ℕ) → HasSoundTable cmp source placed.table.number file → IsTornFile cmp placed file cut
 
--- The cut lies in the table of this index: the tables in front of it end in front of the cut, and
--- those behind it begin behind.
+-- The cut lies in the table of this index: the tables before it end before the cut, and those after
+-- it begin after the cut.
 pub record LiesIn (cmp : Cmp) (row : List PlacedTable) (index : ℕ) (cut : Cut) : Type 0 where
   pub front : (k : ℕ) (placed : PlacedTable) (key : Key) → k < index → slice_get row k ≡ Some placed → IsKey placed.table.largest key → is_in_front cmp cut key ≡ true
   pub back : (k : ℕ) (placed : PlacedTable) (key : Key) → index < k → slice_get row k ≡ Some placed → IsKey placed.table.smallest key → is_in_front cmp cut key ≡ false

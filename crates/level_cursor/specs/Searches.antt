@@ -36,7 +36,7 @@ pub record EndsIn (cmp : Cmp) (row : List PlacedTable) (index : ℕ) (list : Lis
   pub same : SameCut cmp list (aimed_cut goal) cut
   pub stops : leading (passes cmp goal) list < length list
 
--- And so does one back.
+-- And the same for a search back.
 pub record EndsBackIn (cmp : Cmp) (row : List PlacedTable) (index : ℕ) (list : List InternalEntry) (cut : Cut) : Type 0 where
   pub lies : LiesIn cmp row index cut
   pub same : SameCut cmp list End cut
@@ -46,7 +46,7 @@ pub record IsOneOf (cmp : Cmp) (old new : Seen) (row : List PlacedTable) (index 
   pub there : slice_get row index ≡ Some placed
   pub open_is : SaysOf cmp old new placed.table.number (λ file. IsOpenFrame cmp file frame)
 
--- all tables in front of this index end below the target, and the one there doesn't
+-- all tables before this index end below the target, and the one there doesn't
 pub record IsFirstTable (cmp : Cmp) (target : List ℕ) (row : List PlacedTable) (start : ℕ) : Type 0 where
   pub inside : start ≤ length row
   pub front : (k : ℕ) (placed : PlacedTable) → start ≡ suc k → slice_get row k ≡ Some placed → IsBelowInternal cmp placed.table.largest target
@@ -60,8 +60,8 @@ IsSameTable None None = Unit {0}
 IsSameTable (Some old) (Some new) = (new.cursor.placed ≡ old.cursor.placed) × (new.cursor.table.value.frame ≡ old.cursor.table.value.frame) × (new.index ≡ old.index)
 IsSameTable old new = ⊥
 
--- It has gone on to the entry behind; or it stays, and the entry behind is the first from this
--- table on, or it was refused.
+-- It has gone on to the next entry; or it stays, and the next entry is the first from this table
+-- on, or it failed.
 abbrev pub RowStepsOn : {K : Type 0} {g : _} → Cmp → Seen → List (List InternalEntry) → Option (InTable K g) → Option ℕ → Result (Option ℕ) DbError → Type 0
 RowStepsOn cmp source lists new place (Ok None) = IsPlacedRow cmp source lists new (option_and_then (index_behind (joined lists)) place)
 RowStepsOn cmp source lists new place (Ok (Some start)) =
@@ -69,7 +69,7 @@ RowStepsOn cmp source lists new place (Ok (Some start)) =
 RowStepsOn cmp source lists new place (Err error) = IsPlacedRow cmp source lists new place
 
 -- It has gone back to the entry in front; or it stays, and the entry in front is the last of the
--- tables in front of this one, or it was refused.
+-- tables before this one, or it was refused.
 abbrev pub RowStepsBack : {K : Type 0} {g : _} → Cmp → Seen → List (List InternalEntry) → Option (InTable K g) → Option ℕ → Result (Option ℕ) DbError → Type 0
 RowStepsBack cmp source lists new place (Ok None) = IsPlacedRow cmp source lists new (option_and_then index_before place)
 RowStepsBack cmp source lists new place (Ok (Some end)) =

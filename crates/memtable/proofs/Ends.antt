@@ -1,4 +1,4 @@
--- Nodes from which the ends of levels are sought, and a node that goes behind all.
+-- Nodes from which the ends of levels are sought, and a node that goes after all.
 use Rattle.std.proofs.Common.{◌≡◌, ◌+◌, ◌/◌, ◌<◌, ◌≤◌, ℕ, zero, suc, List, [], ◌∷◌, ◌++◌, length, drop, get_or, set, refl, sym, ap, subst, ◌∙◌, arith, length-append, Bool, vec_len}
 use Rattle.std.proofs.lemmas.List.{append-nil}
 use Rattle.std.specs.Global.{Vec}
@@ -37,7 +37,7 @@ pub head-ends : (n : ℕ) (ends : List ℕ) → ((i : ℕ) → get_or ends i 0 �
 head-ends n [] zeroes = tt
 head-ends n (end ∷ ends) zeroes = (([], [], refl, zeroes 0), head-ends n ends (λ i. zeroes (suc i)))
 
--- ---- a node behind all
+-- ---- a node after all
 
 pub next-of-place : (test : ℕ → Bool) (levels : List (Vec ℕ)) (ends : List ℕ) (number : ℕ) (front back : List ℕ) (count total : ℕ) → back ≡ []
     → HasPlace test levels number front back count total → AreEnds ends (front ++ back) → HasNext levels ends number front count total
@@ -85,7 +85,7 @@ end-found levels later (end ∷ ends) last d number from found seen nodes count 
     (subst (λ (v : List ℕ). length far ≤ length v) (sym items) long)
     ∙ ap (λ (n : ℕ). last_or n far) start ∙ sym (last-append 0 near far) ∙ ap (last_or 0) (sym e.2)
 
--- the levels with the node behind all
+-- the levels with the node after all
 pub levels-appended : (levels later : List (Vec ℕ)) (d new : Vec ℕ) (number upper : ℕ) (nodes : List ℕ) (count total : ℕ) → 0 < length levels → 0 < number
     → upper ≡ number_above number → (0 < number → number ≡ count + 1) → IsLevel new (nodes ++ (count + 1) ∷ []) (count + 1) total
     → AreLevels later (joined (quarter nodes) upper []) (count_with upper (count / 4)) (total / 4)
@@ -121,7 +121,7 @@ none-appended levels ends zero nodes count total none h =
     (subst (λ (v : List ℕ). AreLevels levels v count total) (sym (append-nil nodes)) h.lead, subst (AreEnds ends) (sym (append-nil nodes)) h.ends_in)
 none-appended levels ends (suc before) nodes count total none h = absurd (omega (arith, none))
 
--- ---- the lowest level, behind those above it
+-- ---- the lowest level, after those above it
 
 pub level-before : (levels later : List (Vec ℕ)) (d : Vec ℕ) (ends : List ℕ) (number : ℕ) (nodes : List ℕ) (count total : ℕ) → 0 < length levels
     → HasNext levels ends number nodes count total → IsLevel (get_or (with_upper levels later) 0 d) (nodes ++ []) count total

@@ -225,7 +225,7 @@ module _ (cmp : List ℕ → List ℕ → Ordering) where
       ∙ put-in-split (record { node = length inserts + 1; entry = entry }) front back h k
 
   module _ (total : IsTotalOrder cmp) (exact : IsAntisymmetric cmp) where
-    -- all behind an entry that doesn't stand before a place don't either
+    -- all after an entry that doesn't stand before a place don't either
     none-later : (key : List ℕ) (sequence : ℕ) (first : Placed) (later : List Placed) → is_before cmp key sequence first.entry ≡ false
         → AllByRecursion (λ (one : Placed). is_before cmp one.entry.key one.entry.sequence first.entry ≡ true) later → NoneBefore key sequence later
     none-later key sequence first later not h =

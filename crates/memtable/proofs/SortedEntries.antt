@@ -87,7 +87,7 @@ middle-among : (front : List Entry) (entry : Entry) (back : List Entry) → Amon
 middle-among [] entry back = inl refl
 middle-among (first ∷ front) entry back = inr (middle-among front entry back)
 
--- each is new behind those in front
+-- each is new after those in front
 differ-new : (front : List Entry) (entry : Entry) (back : List Entry) → AllDiffer (front ++ entry ∷ back) → IsNew front entry.key entry.sequence
 differ-new [] entry back h = λ other member k s. absurd member
 differ-new (first ∷ front) entry back h = λ other member k s. elim member [

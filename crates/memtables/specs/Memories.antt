@@ -12,7 +12,7 @@ use Rattle.ikey.specs.Views.{AllUpTo}
 use Rattle.memtable.specs.Contents.{Contents}
 
 -- The table that writes go to, with the last sequence number used and the generation under which it
--- is known; and the older ones under theirs, with that of the sealed one, which waits to be written
+-- is known. And the older ones under theirs, with that of the sealed one, which waits to be written
 -- into a table file.
 pub record Memories : Type 0 where
   pub current : Contents

@@ -78,11 +78,11 @@ sealed_kept old new (Some generation) same = inserts_kept (older_at old.older ge
 pub left_sealed : (old new : Memories) → LeavesMemories old new → sealed_inserts new ≡ sealed_inserts old
 left_sealed old new left = ap (λ (o : Option ℕ). inserts_of (option_and_then (older_at new.older) o)) left.sealed ∙ sealed_kept old new old.sealed left.older
 
--- and so are those of the logs
+-- and those of the logs are too
 pub left_logged : (old new : Memories) → LeavesMemories old new → logged_in new ≡ logged_in old
 left_logged old new left = λ i. left_sealed old new left i ++ left.inserts i
 
--- A batch is added behind them.
+-- A batch is added after them.
 pub written_logged : (old new : Memories) (more : List Entry) → HasMoreEntries old new more → logged_in new ≡ logged_in old ++ more
 written_logged old new more written =
     let sealed : sealed_inserts new ≡ sealed_inserts old = ap sealed_inserts written.others in

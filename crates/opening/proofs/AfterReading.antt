@@ -1,4 +1,4 @@
--- What of an open's writing is synced, behind what it only read.
+-- What of an open's writing is synced, after what it only read.
 use Rattle.std.proofs.Common.{◌≡◌, ℕ, ap, sym, subst, ◌∙◌, Result, Ok, Err, IsTrue, inl, inr, arith}
 use Rattle.std.specs.FinMap.{get}
 use Rattle.coding.specs.declared.error.DbError.{DbError}
@@ -46,7 +46,7 @@ spared_same old new files synced name is = (ap (λ (fs : Files). get fs name) fi
 pub beside_behind : (n : ℕ) (old mid new : Facts) → mid.files ≡ old.files → mid.synced ≡ old.synced → SparesBeside n mid new → SparesBeside n old new
 beside_behind n old mid new files synced kept name is = let b = kept name is in (b.0 ∙ ap (λ (fs : Files). get fs name) files, b.1 ∙ ap (λ (s : Synced). s name) synced)
 
--- behind what was only read
+-- after what was only read
 pub spared_behind : (old mid new : Facts) → mid.files ≡ old.files → mid.synced ≡ old.synced → Spares mid new → Spares old new
 spared_behind old mid new files synced kept name is = let a = spared_same old mid files synced name is in let b = kept name is in (b.0 ∙ a.0, b.1 ∙ a.1)
 

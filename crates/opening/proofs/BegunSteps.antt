@@ -64,7 +64,7 @@ behind_stops order old mid new found calls same finds wrote =
     (leaves_so mid new (IsContinued order mid.files) (IsContinued order old.files) (λ files continued. subst (λ (fs : Files). IsContinued order fs files) same continued)
     (wrote (subst (λ (fs : Files). Finds order fs found) (sym same) finds)))
 
--- behind what was read
+-- after what was read
 pub continued_behind : {T : Type 0} (order : Order) (old mid new : Facts) (found : Found) (end : ℕ) (r : Result T DbError) → (IsTrue mid.faithful → mid.files ≡ old.files) → (IsTrue mid.faithful → Finds order old.files found)
     → Rewrites order mid new found end r → IsTrue new.faithful → IsContinued order old.files new.files
 continued_behind order old mid new found end r same finds w f =
@@ -105,13 +105,13 @@ sealed_says memory found others a b entries used s = record {
 pub sealed_logged : (memory : Memories) (entries : List Entry) (used : ℕ) → IsSealedOf memory entries used → logged_in memory ≡ entries
 sealed_logged memory entries used s = let front = s.sealed in let back = s.current in (λ i. front i ++ back i) ∙ append-nil entries
 
--- ---- logs in front of the last one
+-- ---- logs before the last one
 
 rise_to : (low : ℕ) (before : List LogContent) (last : LogContent) → NumbersRise low (before ++ last ∷ []) → low < last.number
 rise_to low [] last h = h.0
 rise_to low (content ∷ before) last h = let first = h.0 in let later = rise_to content.number before last h.1 in omega (arith, first, later)
 
--- there are none where it is the first that is live
+-- there are none where it is the first that is in use
 none_in_front : (layout : Layout) (low : ℕ) (before : List LogContent) (last : LogContent) → layout.log_number ≡ last.number → layout.previous_log_number ≡ 0 → AreLive layout (before ++ last ∷ []) → NumbersRise low (before ++ last ∷ []) → before ≡ []
 none_in_front layout low [] last log previous live rise = refl
 none_in_front layout low (content ∷ before) last log previous live rise = absurd (elim live.0 [
@@ -121,7 +121,7 @@ none_in_front layout low (content ∷ before) last log previous live rise = absu
 
 -- ---- what is known of the directory
 
--- both say which logs are live, and so the same
+-- both say which logs are in use, and so the same
 same_logs : (found : Found) (a b c d : ℕ) → KeepsLogs found a b → KeepsLogs found c d → (a ≡ c) × (b ≡ d)
 same_logs found a b c d (inl k) (inl l) = (k.1 ∙ sym l.1, k.2 ∙ sym l.2)
 same_logs found a b c d (inr k) (inr l) = (k.1 ∙ sym l.1, k.2 ∙ sym l.2)
@@ -129,7 +129,7 @@ same_logs found a b c d (inl k) (inr l) = absurd (k.0 l.0)
 same_logs found a b c d (inr k) (inl l) = absurd (l.0 k.0)
 
 module _ (order : Order) (files : Files) (found : Found) (end : ℕ) (tables : List TableContent) (entries : List Entry) (used : ℕ) (r : HasRewritten order files found end tables entries used) where
-  -- where nothing was found, the new log is the first that is live
+  -- where nothing was found, the new log is the first that is in use
   none_before : (memory : Memories) → IsSealedOf memory entries used → entries ≡ found.entries.items → memory.sealed ≡ None → r.before ≡ []
   none_before memory s says none =
       let nothing : sealed_inserts memory ≡ [] = ap (λ (o : Option ℕ). inserts_of (option_and_then (older_at memory.older) o)) none in

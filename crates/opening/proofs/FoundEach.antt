@@ -128,10 +128,10 @@ pub unwritten_each : (order : Order) (old new : Files) → new ≡ old → OfEac
 unwritten_each order old new same whole behind d c =
     subst (λ (fs : Files). IsContinued order whole fs) (sym (unchanged_too old new whole behind c same)) (continued_itself order whole)
 
--- ---- behind what was read
+-- ---- after what was read
 
 module _ {T : Type 0} (order : Order) (old mid new : Facts) (found : Found) (end : ℕ) (r : Result T DbError) (same : IsTrue mid.faithful → mid.files ≡ old.files) (finds : IsTrue mid.faithful → Finds order old.files found) where
-  -- the writing, from what was there in front of the reading
+  -- the writing, from what was there before the reading
   from_old : RewritesEach order mid new found end r → IsTrue mid.faithful → OfEach (λ whole behind. Rewrites order (with_files mid whole) (with_files new behind) found end r) old.files new.files
   from_old each g = subst (λ (fs : Files). OfEach (λ whole behind. Rewrites order (with_files mid whole) (with_files new behind) found end r) fs new.files) (same g) each
 

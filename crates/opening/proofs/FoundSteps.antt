@@ -67,7 +67,7 @@ parts_found order files found d law some good =
 
 -- ---- an open
 
--- What a look finds behind a listing, there was before it.
+-- What a look finds after a listing, there was before it.
 pub found_before : (order : Order) (old mid : Facts) (listing : Listing) (o found : Option Recovered) → (IsTrue mid.faithful → mid.files ≡ old.files) → (IsTrue mid.faithful → IsListing old.files listing) → IsTrue mid.faithful
     → (IsListing mid.files listing → IsFound order mid.files o) → o ≡ found → IsFound order old.files found
 found_before order old mid listing o found same l f h is =

@@ -1,4 +1,4 @@
--- Which logs the device may not have whole behind an open.
+-- Which logs may not be durable whole after an open.
 use Rattle.std.proofs.Common.{◌≡◌, ◌≢◌, ◌⊎◌, ◌<◌, ◌≤◌, ◌+◌, ◌++◌, ℕ, zero, suc, true, false, is_some, IsSome, List, [], ◌∷◌, map, Option, Some, None, string_bytes, inl, inr, refl, sym, ap, subst, ◌∙◌, arith}
 use Rattle.std.specs.FinMap.{get, contains_key}
 use Rattle.std.specs.Option.{option_or}

@@ -1,4 +1,4 @@
--- What a loss of power leaves of what is synced.
+-- What a power loss leaves of what is synced.
 use Rattle.std.proofs.Common.{◌≡◌, ◌≤◌, ℕ, Bool, true, false, if◌then◌else◌, List, [], ◌∷◌, ◌++◌, length, take, drop, Option, Some, None, is_some, inl, inr, refl, sym, ap, subst, ◌∙◌, arith}
 use Rattle.std.proofs.lemmas.List.{append-nil, drop_all, length-append, take_all}
 use Rattle.std.specs.FinMap.{get}
@@ -13,7 +13,7 @@ use Rattle.recover.specs.Tables.{table_at}
 use Rattle.recover.specs.internal.Laws.{Agree, FreeChangeLaw}
 use Rattle.opening.specs.Losses.{EndsInSync, IsKept, IsKeptWhole, IsTableKept, KeptLaw}
 
--- ---- behind a sync
+-- ---- after a sync
 
 behind_end : (since calls : List Call) (call : Call) → is_sync call.change ≡ true → behind_sync since (calls ++ call ∷ []) ≡ []
 behind_end since [] call is = ap (λ (b : Bool). if b then [] else since ++ call ∷ []) is

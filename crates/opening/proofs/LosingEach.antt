@@ -1,4 +1,4 @@
--- What a loss of power leaves of what is synced, in each directory that differs in tables alone.
+-- What a power loss leaves of what is synced, in each directory that differs in tables alone.
 use Rattle.std.proofs.Common.{◌≡◌, ℕ, List, Option, Some, None, is_some, inl, inr, refl, sym, ap, ◌∙◌}
 use Rattle.std.specs.FinMap.{get}
 use Rattle.std.specs.Option.{option_or}

@@ -1,4 +1,4 @@
--- What a loss of power leaves of a directory while an edit is put behind its MANIFEST and synced.
+-- What a power loss leaves of a directory while an edit is put after its MANIFEST and synced.
 use Rattle.std.proofs.Common.{◌≡◌, ◌≢◌, ◌⊎◌, inl, inr, ℕ, Bool, true, false, cond, List, [], ◌∷◌, ◌++◌, length, take, drop, Option, Some, None, is_some, refl, sym, ap, subst, ◌∙◌, append_assoc, append-nil}
 use Rattle.std.proofs.Math.Seq.{take-append_seam}
 use Rattle.std.proofs.lemmas.List.{append_cancel_left, take-append-drop}
@@ -50,8 +50,8 @@ never o x some none = let bad : Some x ≡ None = sym some ∙ none in cc
 
 -- ---- the file of one name as the loss left it
 
--- These files have it so, and are else as they were in front of the append; and so are those of the
--- moment behind it.
+-- These files have it so, and are else as they were before the append. Those of the moment after it
+-- are too.
 record IsShort (old mid : Facts) (name : List ℕ) (lost files : Files) (left : List ℕ) : Type 0 where
   there : get lost name ≡ Some left
   had : contains_key mid.files name ≡ true
@@ -160,7 +160,7 @@ module _ (old mid : Facts) (name : List ℕ) (lost files : Files) (left : List �
       λ n among. with_other old.synced name (name_of (Log n)) (Some left) (λ e. manifest_apart x.manifest n good.manifest.numbered (numbered_in files x.logs n good.logs among) (sym named ∙ sym e)) in
       (some.0, cut_as old up x.logs some.0 synced some.1, some.2)
 
--- ---- a beginning of what was put behind it
+-- ---- a beginning of what was put after it
 
 behind_both : (a b c : List ℕ) → BeginsWith a b → BeginsWith b c → BeginsWith a c
 behind_both a b c h k = (k.0 ++ h.0, h.1 ∙ ap (λ (x : List ℕ). x ++ h.0) k.1 ∙ append_assoc c k.0 h.0)
@@ -172,7 +172,7 @@ cut_append before bytes left n h k =
     let all : bytes ≡ more ++ (h.0 ++ drop n bytes) = sym (take-append-drop n bytes) ∙ ap (λ (x : List ℕ). x ++ drop n bytes) part ∙ append_assoc more h.0 (drop n bytes) in
     (length more, k.1 ∙ ap (λ (x : List ℕ). before ++ x) (sym (ap (take (length more)) all ∙ take-append_seam more (h.0 ++ drop n bytes))))
 
--- Bytes stand behind the file, as many as came, and of it is synced what it held before, or more.
+-- Bytes stand after the file, as many as came, and of it is synced what it held before, or more.
 record IsPut (old mid : Facts) (name bytes : List ℕ) : Type 0 where
   before : List ℕ
   was : get old.files name ≡ Some before
@@ -210,7 +210,7 @@ put_short old mid name bytes x lost p named left =
     let some = cut_append p.before bytes there.0 p.count front kept in
     (some.0, short_by old mid name bytes lost p there.0 some.0 there.1 some.1)
 
--- What each beginning of these bytes behind the file leaves: one of these directories, and the file
+-- What each beginning of these bytes after the file leaves: one of these directories, and the file
 -- is its MANIFEST.
 pub record LeavesOne (order : Order) (old : Files) (name bytes : List ℕ) (Q : Directory → Type 0) : Type 0 where
   pub one : (files : Files) → AppendsBeginning old files name bytes → (x : Directory) × Q x × IsConsistent order files x
@@ -227,7 +227,7 @@ put_loses spared cut order old mid name bytes Q p leaves spares lost since kept 
     let x = some.0 in
     (x, some.1, short_cut old mid name lost files (p.before ++ take short.0 bytes) short.1 cut order x some.2 (leaves.named x some.1) (spared mid x lost (spares x some.1) since) (kept x some.1))
 
--- ---- behind the append, and behind the sync
+-- ---- after the append, and after the sync
 
 put_noted : (old mid : Facts) (name bytes before : List ℕ) → get old.files name ≡ Some before → IsKept old name → mid.synced ≡ old.synced → Idles old mid ⊎ ((n : ℕ) × Adds old mid (Addition name (take n bytes))) → IsPut old mid name bytes
 put_noted old mid name bytes before was kept synced (inl idle) = record {
@@ -290,15 +290,15 @@ spared_on old mid x c s = record {
 pub spared_behind : (facts : Facts) (x : Directory) → behind_sync [] facts.calls ≡ [] → AreSpared facts x
 spared_behind facts x none = record { reads = λ q read. stays_behind facts q none; logs = λ q log. begins_behind facts q none }
 
--- in front of it
+-- before it
 here_loses : SparedLaw → CutLaw → (order : Order) (old : Facts) (name bytes : List ℕ) (Q : Directory → Type 0) → LeavesOne order old.files name bytes Q → ((x : Directory) → Q x → AreSpared old x) → LosesOnly old old (LeavesOneCut order old Q)
 here_loses spared cut order old name bytes Q leaves spares lost since kept =
     let first = leaves.one old.files (inl refl) in
     let x = first.0 in
     (x, first.1, left_cut spared cut order old x first.2 (spares x first.1) lost since (kept x first.1))
 
--- Bytes are put behind the MANIFEST and synced, of which each beginning leaves one of these
--- directories: so does each loss, at any moment, but for the ends of logs.
+-- Bytes are put after the MANIFEST and synced, of which each beginning leaves one of these
+-- directories. Each loss leaves one too, at any moment, except for the ends of logs.
 pub loses_edits : SparedLaw → CutLaw → (order : Order) (old new : Facts) (name bytes : List ℕ) (Q : Directory → Type 0) → PutsSynced old new name bytes → LeavesOne order old.files name bytes Q → IsKept old name → ((x : Directory) → Q x → AreSpared old x)
     → LosesOnly old new (LeavesOneCut order old Q)
 loses_edits spared cut order old new name bytes Q puts leaves whole spares =
@@ -319,7 +319,7 @@ loses_edits spared cut order old new name bytes Q puts leaves whole spares =
           loses_both old mid new (record { found = disk_of mid; change = Sync name } ∷ []) P done.0.0 begun (loses_noted mid new (Sync name) P (inr done.0) between behind)
     ]
 
--- So it is of what a stop of the whole may leave.
+-- The same holds of what a process crash of the whole may leave.
 pub loses_put : SparedLaw → CutLaw → (order : Order) (old mid new : Facts) (more : List Call) (name bytes : List ℕ) (P : Files → Type 0) (Q : Directory → Type 0)
     → mid.calls ≡ old.calls ++ more → PutsSynced mid new name bytes → LeavesOnly old new P
     → ((files : Files) → P files → (x : Directory) × Q x × IsConsistent order files x) → ((x : Directory) → Q x → name ≡ name_of (Manifest x.manifest))

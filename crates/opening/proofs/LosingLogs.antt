@@ -1,5 +1,5 @@
--- What a loss of power leaves of a directory while bytes are put behind one of its logs, and while
--- a log is synced.
+-- What a power loss leaves of a directory while bytes are put after one of its logs, and while a
+-- log is synced.
 use Rattle.std.proofs.Common.{◌≡◌, ◌≢◌, ◌⊎◌, inl, inr, ℕ, List, ◌++◌, take, sym, ap, subst, ◌∙◌}
 use Rattle.std.specs.FinMap.{get}
 use Rattle.store.specs.Calls.{Adds, Idles}
@@ -30,7 +30,7 @@ pub logs_lose : SparedLaw → CutLaw → (order : Order) (old then : Facts) (d :
 logs_lose spared cut order old then d logs same good spares lost since kept =
     left_cut spared cut order then (record d { logs = logs }) good (spared_logs then d logs spares) lost since (left_logs then lost d logs (left_at old then lost d same kept))
 
--- ---- behind an append
+-- ---- after an append
 
 other_files : (old new : Facts) (name bytes q : List ℕ) → q ≢ name → Idles old new ⊎ ((n : ℕ) × Adds old new (Addition name (take n bytes))) → get new.files q ≡ get old.files q
 other_files old new name bytes q apart (inl idle) = ap (λ (disk : Disk). get disk.files q) idle.1
@@ -47,7 +47,7 @@ append_loses spared cut order old new d logs name bytes noted synced apart good 
     (record { files = λ q read. other_files old new name bytes q (apart q read) noted; synced = λ q read. ap (λ (s : Synced). s q) synced })
     good (spared_on old new d (carries_begun old new name bytes (λ (p : List ℕ). ⊥) synced noted) spares)
 
--- ---- behind a sync
+-- ---- after a sync
 
 -- the same directory, of which more is synced
 pub sync_loses : SparedLaw → CutLaw → (order : Order) (old new : Facts) (d : Directory) (name : List ℕ) → Adds old new (Sync name) → ((q : List ℕ) → q ≢ name → new.synced q ≡ old.synced q)

@@ -1,5 +1,5 @@
--- What a loss of power leaves between the rename of a file and the sync behind it: the names of
--- before, or those of now.
+-- What a power loss leaves between the rename of a file and the sync after it: the names of before,
+-- or those of now.
 use Rattle.std.proofs.Common.{◌≤◌, ◌≡◌, ◌≢◌, inl, inr, ℕ, Bool, true, false, cond, List, [], ◌∷◌, length, take, drop, Option, Some, None, if◌then◌else◌, refl, sym, ap, subst, ◌∙◌, arith}
 use Rattle.std.proofs.lemmas.List.{drop_all, take_all}
 use Rattle.std.specs.Cmp.Lexicographic.{nat_list_cmp_total}
@@ -27,7 +27,7 @@ pub gone_other : (files : Files) (name q : List ℕ) → q ≢ name → get (rem
 gone_other files name q apart =
     get-remove nat_list_cmp_total files name q ∙ ap (λ (b : Bool). cond b None (get files q)) (not_same q name apart)
 
--- a loss behind a sync
+-- a loss after a sync
 now_lost : (facts : Facts) (lost : Files) → behind_sync [] facts.calls ≡ [] → IsLost facts.files [] (disk_of facts) lost → Lost facts (moment facts) lost
 now_lost facts lost none h =
     let n = length facts.calls in
@@ -92,8 +92,8 @@ module _ (old new : Facts) (from to : List ℕ) (adds : Adds old new (Move from 
     kept = λ q bytes s there is. h.kept q bytes s there (ap (λ (p : Held). p.1) (held_before q) ∙ is);
   }
 
-  -- Behind a sync the file is renamed: a loss leaves what it left before, or what it would leave
-  -- behind a further sync.
+  -- After a sync the file is renamed: a loss leaves what it left before, or what it would leave
+  -- after a further sync.
   pub loses_renamed : (P : Files → Type 0) → behind_sync [] old.calls ≡ [] → LosesOnly old old P → ((lost : Files) → IsLost new.files [] (disk_of new) lost → P lost) → LosesOnly new new P
   loses_renamed P none before behind lost since =
       let least : length new.calls ≤ since.0 = since.1 in

@@ -1,4 +1,4 @@
--- What a loss of power leaves while an open writes.
+-- What a power loss leaves while an open writes.
 use Rattle.std.proofs.Common.{◌≡◌, ◌≢◌, ◌⊎◌, inl, inr, ℕ, ◌+◌, false, cond, List, [], ◌∷◌, ◌++◌, Option, Some, None, is_some, Ok, IsTrue, refl, sym, ap, subst, ◌∙◌}
 use Rattle.std.specs.Cmp.Lexicographic.{nat_list_cmp_total}
 use Rattle.std.specs.FinMap.{get, insert, remove, contains_key, get-remove}
@@ -36,7 +36,7 @@ pub nothing_left : (bytes rest : List ℕ) → [] ≡ bytes ++ rest → bytes �
 nothing_left [] rest is = refl
 nothing_left (byte ∷ bytes) rest is = absurd (cc)
 
--- Behind a sync an empty file is made where there was none: a loss leaves it so, or none.
+-- After a sync an empty file is made where there was none: a loss leaves it so, or none.
 made_left : (most new : Facts) (log : List ℕ) → behind_sync [] most.calls ≡ [] → contains_key most.files log ≡ false → Idles most new ⊎ Adds most new (Creation log) → (lost : Files) → Lost new (moment new) lost
     → (get lost log ≡ None) ⊎ (get lost log ≡ Some [])
 made_left most new log ends absent (inl idle) lost since =
@@ -145,7 +145,7 @@ module _ (order : Order) (laws : OpenLaws) (old : Facts) (found : Found) (u : Is
         let goes = only.leaves in
         loses_both old most new goes.more Continues goes.calls before (loses_noted most new (Creation log) Continues noted here behind)
 
--- ---- behind what was read
+-- ---- after what was read
 
 pub unwritten_loses : (order : Order) (old mid : Facts) → mid.calls ≡ old.calls → mid.files ≡ old.files → mid.synced ≡ old.synced → HaveNamesStayed old
     → LosesOnly old mid (λ lost. LeavesUncut old lost → IsButLock (IsContinued order old.files) lost)

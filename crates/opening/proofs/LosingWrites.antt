@@ -1,4 +1,4 @@
--- What a loss of power leaves of a directory while calls write files that it doesn't read.
+-- What a power loss leaves of a directory while calls write files that it doesn't read.
 use Rattle.std.proofs.Common.{◌≡◌, ◌⊎◌, inl, inr, ℕ, true, false, List, [], ◌∷◌, Option, Some, None, is_some, refl, sym, ap, subst, ◌∙◌}
 use Rattle.std.specs.FinMap.{get, contains_key}
 use Rattle.std.specs.Option.{option_or}

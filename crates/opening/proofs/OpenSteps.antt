@@ -196,7 +196,7 @@ module _ (order : Order) (laws : OpenLaws) (old : Facts) (found : Found) (u : Is
     ok = λ f. tt;
   }
 
-  -- ---- a stop in the middle
+  -- ---- a process crash in the middle
 
   module _ (h : Finds order old.files found) where
     -- of the files alone

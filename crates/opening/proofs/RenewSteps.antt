@@ -27,13 +27,13 @@ sets_moved old mid new temporary bytes next w moves = record {
   goes = elim moves [ inl idle ↦ inl idle | inr done ↦ inr (w, inr (new, done, inl (refl, refl))) ];
 }
 
--- one that was accepted was done
+-- one that succeeded was done
 pub renamed_by : (mid third : Facts) (temporary bytes : List ℕ) → temporary ≢ name_of Current → get mid.files temporary ≡ Some bytes → Moves mid third temporary → Renames mid.files third.files temporary (name_of Current) → IsRenamed mid third temporary
 renamed_by mid third temporary bytes apart there (inl idle) renames =
     absurd (let bad : Some bytes ≡ None = sym there ∙ sym (ap (λ (disk : Disk). get disk.files temporary) idle.1) ∙ gone_from mid.files third.files temporary (name_of Current) apart renames in cc)
 renamed_by mid third temporary bytes apart there (inr done) renames = done
 
--- and then the sync was accepted, or refused
+-- and then the sync succeeded, or failed
 pub sets_synced : (old mid third new : Facts) (temporary bytes : List ℕ) (r : Result (Unit {0}) StoreError) → IsWritten old mid temporary bytes → IsRenamed mid third temporary
     → OnOk r (Adds third new (Sync (name_of Current))) → OnErr r (new.calls ≡ third.calls) → new.files ≡ third.files → OnOk r (new.synced ≡ with_synced third.synced (name_of Current) (get third.files (name_of Current))) → OnErr r (new.synced ≡ third.synced)
     → SetsThen old new temporary bytes (λ last. last ≡ new)
@@ -41,7 +41,7 @@ sets_synced old mid third new temporary bytes (Ok x) w done added left same sync
 sets_synced old mid third new temporary bytes (Err e) w done added left same synced unsynced =
     record { mid = mid; only = w.only; goes = inr (w, inr (third, done, inl (left, λ i. record { files = same i; synced = unsynced i }))) }
 
--- ---- one step behind the other
+-- ---- one step after the other
 
 pub makes_none : (facts : Facts) (name : List ℕ) → Makes facts facts name
 makes_none facts name = (others_same facts facts (λ (q : List ℕ). q ≡ name) refl refl refl, inl (refl, refl))
@@ -66,7 +66,7 @@ pub sets_last : (old new : Facts) (temporary bytes log : List ℕ) → SetsThen 
 sets_last old new temporary bytes log h =
     sets_so old new temporary bytes (λ last. last ≡ new) (λ last. Makes last new log) (λ last is. subst (λ (f : Facts). Makes f new log) (sym is) (makes_none new log)) h
 
--- and where a log was made behind it
+-- and where a log was made after it
 pub sets_makes : (old most new : Facts) (temporary bytes log : List ℕ) → SetsWhole old most temporary bytes → Makes most new log → SetsThen old new temporary bytes (λ last. Makes last new log)
 sets_makes old most new temporary bytes log whole makes = record { mid = whole.0; only = whole.2.only; goes = inr (whole.2, inr (whole.1, whole.3, inr (most, whole.4, makes))) }
 
@@ -77,7 +77,7 @@ made_there old made name absent files (inl idle) =
     let there : contains_key made.files name ≡ true = ap (λ (fs : Files). contains_key fs name) files ∙ ap is_some (get_same old.files name []) in
     absurd (let bad : true ≡ false = sym there ∙ ap (λ (disk : Disk). contains_key disk.files name) idle.1 ∙ absent in cc)
 
--- a log that wasn't there, and was made where that was accepted
+-- a log that wasn't there, and was made where that succeeded
 pub made_whole : (most new : Facts) (log : List ℕ) (r : Result (Unit {0}) DbError) → contains_key most.files log ≡ false → OnOk r (new.files ≡ insert most.files log []) → Makes most new log → OnOk r (OnlyIt most new log × Adds most new (Creation log))
 made_whole most new log (Ok x) absent files makes = (makes.0, made_there most new log absent files makes.1)
 made_whole most new log (Err e) absent files makes = tt
@@ -94,7 +94,7 @@ pub starts_refused : (old new : Facts) (name : List ℕ) → Idles old new ⊎ A
 starts_refused old new name (inl idle) = inl idle
 starts_refused old new name (inr adds) = inr (new, adds, others_same new new (λ (q : List ℕ). q ≡ name) refl refl refl)
 
--- it was accepted, and bytes were added, as many as came behind it
+-- it succeeded, and bytes were added, as many as came after it
 starts_added : (old made new : Facts) (name bytes : List ℕ) → contains_key old.files name ≡ false → made.files ≡ insert old.files name [] → Idles old made ⊎ Adds old made (Creation name)
     → Idles made new ⊎ ((n : ℕ) × Adds made new (Addition name (take n bytes))) → new.synced ≡ made.synced → Adds old made (Creation name) × OnlyIt made new name
 starts_added old made new name bytes absent files creation noted same =
@@ -115,13 +115,13 @@ starts_synced old made most new name bytes r absent files creation noted unsynce
     let starts = starts_added old made most name bytes absent files creation noted unsynced in
     inr (made, starts.0, synced_stops made most new name r starts.1 added left same (sync_others most new name r synced kept))
 
--- ---- calls in front of it changed nothing
+-- ---- calls before it changed nothing
 
 -- none of these changed anything
 idles_both : (a b c : Facts) → Idles a b → Idles b c → Idles a c
 idles_both a b c h k = (k.0 ∙ h.0, k.1 ∙ h.1)
 
--- the call behind them finds what they found
+-- the call after them finds what they found
 adds_behind : (old first made : Facts) (name : List ℕ) → Idles old first → Adds first made (Creation name) → Adds old made (Creation name)
 adds_behind old first made name idle adds = (
   adds.0 ∙ (λ i. idle.0 i ++ (record { found = idle.1 i; change = Creation name }) ∷ []),

@@ -336,11 +336,11 @@ module _ (order : Order) (old new : Files) (found : Found) (bytes : List ℕ) wh
   unfoldable pub HasNew : IsNewManifest order found bytes → Type 0
   HasNew w = ManifestEndsAt order new found.number (length bytes) (w.edit ∷ []) w.layout
 
-  -- the parts are behind the new MANIFEST
+  -- the parts are after the new MANIFEST
   abbrev pub HasNewParts : IsNewManifest order found bytes → List TableContent → List Entry → ℕ → Type 0
   HasNewParts w tables entries used = (parts : HasParts order new tables entries used) × (parts.0.manifest ≡ found.number) × (parts.0.edits ≡ w.edit ∷ []) × (parts.0.layout ≡ w.layout)
 
-  -- the log numbers of the new layout are below the number behind the one of the new log
+  -- the log numbers of the new layout are below the number after the one of the new log
   pub logs_below : (w : IsNewManifest order found bytes) → Finds order old found → (w.layout.log_number < found.number + 2) × (w.layout.previous_log_number < found.number + 2)
   logs_below w h = elim w.logs [
     | inl same ↦ elim h.what [

@@ -118,7 +118,7 @@ module _ (order : Order) (laws : OpenLaws) (old : Facts) (found : Found) (u : Is
       (makes_too mid most s.0 t.0 (stays_since old.files mid.files most.files whole s.0 t.0 s.1 t.1) (name_of (Temporary found.number)) current (same_name most.files whole t.0 d t.1 (name_of Current) current_other) (Ok tt) made)
       (creates_too most new t.0 behind (stays_since old.files most.files new.files whole t.0 behind t.1 c) log (same_name new.files whole behind d c log (log_other (found.number + 1) (next_of found u))) r created)
 
-  -- ---- a stop in the middle
+  -- ---- a process crash in the middle
 
   pub manifest_stops_each : (mid : Facts) → LeavesOnly old mid (KeepsBut old.files (λ (q : List ℕ). q ≡ name_of (Manifest found.number))) → LeavesOnly old mid (ContinuedEach order found old.files)
   manifest_stops_each mid k =

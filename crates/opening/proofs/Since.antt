@@ -60,7 +60,7 @@ pub log_begun : (order : Order) (found : Found) (old mid most new : Facts) (mani
 log_begun order found old mid most new manifest current result usable finds wrote made ends begins m f =
     begun_if most new (name_of (Log (found.number + 1))) result ends begins (still_no_log order old mid most found.number manifest current (numbered_of found usable) (next_of found usable) finds.number.0 wrote made m) f
 
--- ---- behind the reading
+-- ---- after the reading
 
 pub found_behind : (order : Order) (old mid : Facts) (found : Found) → mid.files ≡ old.files → Finds order old.files found → Finds order mid.files found
 found_behind order old mid found same = subst (λ (files : Files). Finds order files found) (sym same)

@@ -1,4 +1,4 @@
--- What a loss of power leaves of a directory that the calls since the last sync spared.
+-- What a power loss leaves of a directory that the calls since the last sync spared.
 use Rattle.std.proofs.Common.{◌≡◌, ◌⊎◌, inl, inr, ℕ, true, false, List, [], ◌∷◌, Option, Some, None, is_some, refl, sym, ap, ◌∙◌}
 use Rattle.std.specs.FinMap.{get, contains_key}
 use Rattle.std.specs.Option.{option_map_or}

@@ -26,7 +26,7 @@ use Rattle.opening.specs.internal.Renewing.{OnlyIt}
 abbrev pub done_so : Result (Unit {0}) DbError
 done_so = Ok tt
 
--- no lock was denied, taken or given back
+-- no lock was denied, taken or released
 abbrev Unlocking : Facts → Facts → Type 0
 Unlocking old new = (new.denials ≡ old.denials) × (new.locked ≡ old.locked)
 
@@ -144,7 +144,7 @@ removed_at : (b : Bool) (x : Option (List ℕ)) → (b ≡ true → ⊥) → con
 removed_at true x h = absurd (h refl)
 removed_at false x h = refl
 
--- another file stays where one is taken away
+-- another file stays where one is removed
 get_removed : (files : Files) (name q : List ℕ) → q ≢ name → get (remove files name) q ≡ get files q
 get_removed files name q apart =
     get-remove nat_list_cmp_total files name q
@@ -291,7 +291,7 @@ current_not_kept old mid new temporary bytes se e m counts undenied same there i
       err = λ f. inr (set_behind old.files mid.files new.files temporary bytes (same f) (m.ok (call.faithful f)));
     }
 
--- ---- a stop in the middle
+-- ---- a process crash in the middle
 
 pub appended_stops : (old mid new : Facts) (name bytes : List ℕ) → OnlyIt old mid name → Idles mid new ⊎ ((n : ℕ) × Adds mid new (Addition name (take n bytes))) → new.synced ≡ mid.synced → OnlyIt old new name
 appended_stops old mid new name bytes h noted same =

@@ -55,7 +55,7 @@ only_both old mid new name first next q apart = next q apart ∙ first q apart
 pub unwritten : (old new : Facts) (name bytes : List ℕ) (e : DbError) → (IsTrue new.faithful → SyncsOnly old.synced new.synced name) → WritesSynced old new name bytes (Err e)
 unwritten old new name bytes e others = record { ok = λ f. tt; others = others }
 
--- behind the making of the file what is synced stays
+-- after the making of the file what is synced stays
 pub unwritten_behind : (old mid new : Facts) (name bytes : List ℕ) (e : DbError) → (IsTrue new.faithful → IsTrue mid.faithful) → (IsTrue mid.faithful → SyncsOnly old.synced mid.synced name) → (IsTrue new.faithful → new.synced ≡ mid.synced)
     → WritesSynced old new name bytes (Err e)
 unwritten_behind old mid new name bytes e back made same =
@@ -140,7 +140,7 @@ module _ (old mid new : Facts) (temporary bytes : List ℕ) where
     ];
   }
 
--- what is said of it holds behind a sync of it
+-- what is said of it holds after a sync of it
 module _ (old mid new : Facts) (temporary bytes : List ℕ) (back : IsTrue new.faithful → IsTrue mid.faithful) (same : IsTrue new.faithful → new.files ≡ mid.files) (made : MakesSynced old mid temporary bytes (Ok tt)) where
   there_still : IsTrue new.faithful → get new.files (name_of Current) ≡ Some bytes
   there_still f = ap (λ (fs : Files). get fs (name_of Current)) (same f) ∙ (made.ok (back f)).0
@@ -296,7 +296,7 @@ pub spares_log : (n : ℕ) (old new : Facts) (k : ℕ) → IsNumbered n → IsNu
 spares_log n old new k num next spares numbered other =
     spares (name_of (Log k)) (beside_file n (Log k) num next numbered (λ e. cc) (λ e. cc) (λ e. other (log_of e)) (λ e. cc))
 
--- ---- a record behind the log
+-- ---- a record after the log
 
 pub done_of : {P : Type 0} (r : Result (Unit {0}) StoreError) → is_err r ≡ false → OnOk r P → P
 done_of (Ok x) test h = h

@@ -1,4 +1,4 @@
--- What a loss of power leaves where it leaves no mere beginning of what isn't synced, call by call.
+-- What a power loss leaves where it leaves no mere beginning of what isn't synced, call by call.
 use Rattle.std.proofs.Common.{◌≡◌, ◌≢◌, ◌⊎◌, inl, inr, ℕ, cond, List, [], ◌∷◌, ◌++◌, Option, Some, None, is_some, Result, Ok, Err, OnOk, OnErr, IsTrue, refl, sym, ap, subst, ◌∙◌, append-nil, append_assoc}
 use Rattle.std.specs.Cmp.Lexicographic.{nat_list_cmp_total}
 use Rattle.std.specs.FinMap.{get, insert, remove, get-remove}
@@ -199,7 +199,7 @@ module _ (old : Facts) (temporary bytes : List ℕ) where
       let last : List Call = record { found = disk_of mid; change = Move temporary (name_of Current) } ∷ [] in
       (w.only.leaves.more ++ last, done.0.0 ∙ ap (λ (calls : List Call). calls ++ last) w.only.leaves.calls ∙ append_assoc old.calls w.only.leaves.more last)
 
-  -- and its sync, accepted or refused
+  -- and its sync, whether it succeeds or fails
   pub kept_loses : (mid third new : Facts) (r : Result (Unit {0}) StoreError) → IsWritten old mid temporary bytes → Moves mid third temporary → Renames mid.files third.files temporary (name_of Current)
       → third.synced ≡ renamed mid.synced temporary (name_of Current) → ((q : List ℕ) → StaysNamed old q) → OnOk r (Adds third new (Sync (name_of Current))) → OnErr r (new.calls ≡ third.calls) → new.files ≡ third.files
       → OnOk r (new.synced ≡ with_synced third.synced (name_of Current) (get third.files (name_of Current))) → OnErr r (new.synced ≡ third.synced) → LosesOnly old new MayBeSet

@@ -12,7 +12,7 @@ use Rattle.edits.specs.declared.names.FileName.TheVariants.{Current, Manifest}
 abbrev pub SyncsOnly : Synced → Synced → List ℕ → Type 0
 SyncsOnly old new name = (q : List ℕ) → q ≢ name → new q ≡ old q
 
--- The file of this name is synced whole: the device keeps what it holds.
+-- The file of this name is synced whole: the disk keeps what it holds.
 abbrev pub IsSynced : Facts → List ℕ → Type 0
 IsSynced facts name = facts.synced name ≡ get facts.files name
 
@@ -42,7 +42,7 @@ IsDurableAt n facts =
 abbrev pub IsDurable : Facts → Type 0
 IsDurable facts = (n : ℕ) × IsDurableAt n facts
 
--- So it is behind an open, and behind one that was refused wherever `CURRENT` has changed.
+-- The same holds after an open, and after one that was refused wherever `CURRENT` has changed.
 pub record LeavesDurable {T : Type 0} (old new : Facts) (result : Result T DbError) : Type 0 where
   pub ok : IsTrue new.faithful → OnOk result (IsDurable new)
   pub err : IsTrue new.faithful → OnErr result (LeavesFile old new (name_of Current) ⊎ IsDurable new)

@@ -1,4 +1,4 @@
--- What a loss of power leaves of a directory, by what of it is synced. (What it may leave of files:
+-- What a power loss leaves of a directory, by what of it is synced. (What it may leave of files:
 -- `store`'s specs/Losses.)
 use Rattle.std.specs.Prelude.{◌≡◌, ◌≢◌, ◌⊎◌, ◌<◌, ◌≤◌, ℕ, true, false, Some, None, List, [], ◌∷◌, ◌++◌, map, string_bytes}
 use Rattle.std.specs.List.{AllByRecursion}
@@ -17,7 +17,7 @@ use Rattle.directory_writes.specs.Differing.{OfEach}
 use Rattle.opening.specs.declared.directory.CurrentLog.{CurrentLog}
 use Rattle.opening.specs.declared.directory.DirectoryState.{DirectoryState}
 
--- The last call was a sync that was accepted.
+-- The last call was a sync that succeeded.
 abbrev pub EndsInSync : Facts → Type 0
 EndsInSync facts = (calls : List Call) × (call : Call) × (facts.calls ≡ calls ++ call ∷ []) × (is_sync call.change ≡ true)
 
@@ -35,7 +35,7 @@ IsLogBelow bound name = (n : ℕ) × IsNumbered n × (n < bound) × (name ≡ na
 abbrev pub IsLogRead : DirectoryState → ℕ → Type 0
 IsLogRead state n = (state.first_log ≤ n) ⊎ ((n ≡ state.previous_log) × (0 < n))
 
--- The log that writes go to, and those in front of it that the device may not have whole.
+-- The log that writes go to, and those before it that may not be durable whole.
 abbrev pub logs_in_doubt : CurrentLog → List (List ℕ)
 logs_in_doubt log = string_bytes log.name ∷ map string_bytes log.front.items
 
@@ -50,11 +50,11 @@ pub record AreInDoubt (files : Files) (log : CurrentLog) (state : DirectoryState
 abbrev pub IsKept : Facts → List ℕ → Type 0
 IsKept facts name = (bytes : List ℕ) → get facts.files name ≡ Some bytes → facts.synced name ≡ Some bytes
 
--- What is there of this name the loss has left whole, or taken away.
+-- What is there of this name the loss has left whole, or removed.
 abbrev pub IsWholeOrGone : Files → Files → List ℕ → Type 0
 IsWholeOrGone files lost name = (bytes : List ℕ) → get files name ≡ Some bytes → (get lost name ≡ None) ⊎ (get lost name ≡ Some bytes)
 
--- So it is, if the file isn't known to be synced.
+-- That holds, if the file isn't known to be synced.
 abbrev pub IsLeftWhole : Facts → Files → List ℕ → Type 0
 IsLeftWhole facts lost name = IsKept facts name ⊎ IsWholeOrGone facts.files lost name
 
@@ -63,8 +63,8 @@ IsLeftWhole facts lost name = IsKept facts name ⊎ IsWholeOrGone facts.files lo
 abbrev pub IsTableKept : Facts → ℕ → Type 0
 IsTableKept facts number = IsKept facts (name_of (Table number)) × (get facts.files (name_of (Table number)) ≡ None → IsKept facts (name_of (OldTable number)))
 
--- So is all that a directory of these parts reads: `CURRENT`, its MANIFEST, its live logs, and its
--- tables but for those that the loss has left.
+-- So is all that a directory of these parts reads: `CURRENT`, its MANIFEST, its logs in use, and
+-- its tables but for those that the loss has left.
 pub record IsKeptWhole (facts : Facts) (lost : Files) (d : Directory) : Type 0 where
   pub current : IsKept facts (name_of Current)
   pub manifest : IsKept facts (name_of (Manifest d.manifest))
@@ -72,7 +72,7 @@ pub record IsKeptWhole (facts : Facts) (lost : Files) (d : Directory) : Type 0 w
   pub tables : (content : TableContent) → InTables d.tables content
       → IsTableKept facts content.placed.table.number ⊎ (table_at lost content.placed.table.number ≡ table_at facts.files content.placed.table.number)
 
--- Behind a sync, every loss of power until the next call leaves a directory of the same parts then.
+-- After a sync, every power loss until the next call leaves a directory of the same parts then.
 abbrev pub KeptLaw : Type 0
 KeptLaw = (order : Order) (facts : Facts) (d : Directory) (lost : Files)
     → IsConsistent order facts.files d → IsKeptWhole facts lost d → EndsInSync facts → Lost facts (moment facts) lost → IsConsistent order lost d
@@ -114,34 +114,33 @@ IsReadIn files d name = (name ≡ name_of Current) ⊎ (name ≡ name_of (Manife
 abbrev pub IsLogIn : Directory → List ℕ → Type 0
 IsLogIn d name = (n : ℕ) × IsNumbered n × IsLive d.layout n × (name ≡ name_of (Log n))
 
--- Of what the directory reads, these files are left: the same names, but for logs of which nothing
--- was synced, and of each file a beginning of what it holds, with what of it was synced at least.
--- Whatever else lies there, and whatever is gone, is none of its.
+-- Of what the directory reads, these files are left: the same names, except logs of which nothing
+-- was synced, and of each file a beginning of what it holds. That beginning has at least what of it
+-- was synced. Whatever else lies there, and whatever is gone, is none of the directory's.
 pub record IsLeftOf (facts : Facts) (d : Directory) (lost : Files) : Type 0 where
   pub names : (q : List ℕ) → IsReadIn facts.files d q → contains_key lost q ≡ contains_key facts.files q
   pub logs : (q : List ℕ) → IsLogIn d q → (contains_key lost q ≡ contains_key facts.files q) ⊎ ((contains_key lost q ≡ false) × (facts.synced q ≡ None))
   pub beginning : (q bytes : List ℕ) → IsReadIn facts.files d q ⊎ IsLogIn d q → get lost q ≡ Some bytes → (held : List ℕ) × (get facts.files q ≡ Some held) × BeginsWith held bytes
   pub kept : (q bytes synced : List ℕ) → IsReadIn facts.files d q ⊎ IsLogIn d q → get lost q ≡ Some bytes → facts.synced q ≡ Some synced → BeginsWith bytes synced
 
--- So a loss of power leaves a consistent directory then, whose logs may be cut.
+-- So a power loss leaves a consistent directory then, whose logs may be cut.
 abbrev pub CutLaw : Type 0
 CutLaw = (order : Order) (facts : Facts) (d : Directory) (lost : Files) → IsConsistent order facts.files d → IsKeptButLogs facts facts.files lost d → IsLeftOf facts d lost
     → (logs : List LogContent) × AreCut facts d.logs logs × IsConsistent order lost (record d { logs = logs })
 
 -- ---- a loss since the last sync
 
--- The calls since the last sync spare what a directory of these parts reads: no file of it was
--- moved, replaced, made or taken away, but that logs were begun of which nothing is synced.
+-- The calls since the last sync spare what a directory of these parts reads. No file of it was
+-- moved, replaced, made or removed, except that logs were begun of which nothing is synced.
 pub record AreSpared (facts : Facts) (d : Directory) : Type 0 where
   pub reads : (name : List ℕ) → IsReadIn facts.files d name → StaysNamed facts name
   pub logs : (name : List ℕ) → IsLogIn d name → StaysOrBegins facts name
 
--- Then every loss of power until the next call leaves of it what `IsLeftOf` says.
+-- Then every power loss until the next call leaves of it what `IsLeftOf` says.
 abbrev pub SparedLaw : Type 0
 SparedLaw = (facts : Facts) (d : Directory) (lost : Files) → AreSpared facts d → Lost facts (moment facts) lost → IsLeftOf facts d lost
 
--- Behind an open the calls since the last sync spare all but the new log, which they may have
--- begun.
+-- After an open the calls since the last sync spare all but the new log, which they may have begun.
 pub record BeginsSpared (facts : Facts) (log : List ℕ) : Type 0 where
   pub others : (name : List ℕ) → name ≢ log → StaysNamed facts name
   pub begun : StaysOrBegins facts log
@@ -156,8 +155,8 @@ IsUncut files lost name = (bytes held : List ℕ) → get files name ≡ Some by
 abbrev pub LeavesUncut : Facts → Files → Type 0
 LeavesUncut facts lost = (name : List ℕ) → IsKept facts name ⊎ IsUncut facts.files lost name
 
--- The device has the names as they are, but for that of the lock's file, which each open makes
--- where it was missing.
+-- The names are durable as they are, but for that of the lock's file, which each open makes where
+-- it was missing.
 abbrev pub HaveNamesStayed : Facts → Type 0
 HaveNamesStayed facts = (name : List ℕ) → name ≢ lock_name → StaysNamed facts name
 
@@ -176,12 +175,12 @@ pub record IsKeptOver (facts : Facts) (whole after : Files) (d : Directory) : Ty
   pub tables : (content : TableContent) → InTables d.tables content
       → IsTableKept facts content.placed.table.number ⊎ (table_at after content.placed.table.number ≡ table_at whole content.placed.table.number)
 
--- Behind a sync, every loss of power until the next call leaves that directory then.
+-- After a sync, every power loss until the next call leaves that directory then.
 abbrev pub KeptEachLaw : Type 0
 KeptEachLaw = (order : Order) (facts : Facts) (d : Directory) (lost : Files) → EndsInSync facts → Lost facts (moment facts) lost
     → OfEach (λ whole after. IsConsistent order whole d → IsKeptOver facts whole after d → IsConsistent order after d) facts.files lost
 
--- A loss of power that leaves of it what `IsLeftOf` says leaves it with logs that may be cut.
+-- A power loss that leaves of it what `IsLeftOf` says leaves it with logs that may be cut.
 abbrev pub CutEachLaw : Type 0
 CutEachLaw = (order : Order) (facts : Facts) (d : Directory) (lost : Files) → IsLeftOf facts d lost
     → OfEach (λ whole after. IsConsistent order whole d → IsKeptButLogs facts whole after d → (logs : List LogContent) × AreCut facts d.logs logs × IsConsistent order after (record d { logs = logs })) facts.files lost

@@ -17,7 +17,7 @@ MayRefuseOpen error.AlreadyOpen = Unit {0}
 MayRefuseOpen error.Locked = Unit {0}
 MayRefuseOpen _ = ⊥
 
--- So it is behind an open, but where that couldn't give the lock back.
+-- The same holds after an open, unless that couldn't release the lock.
 abbrev pub StoodOrHeld : Facts → Facts → Type 0
 StoodOrHeld old new = (new.failures ≡ old.failures) ⊎ (new.locked ≡ true)
 

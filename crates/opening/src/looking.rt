@@ -68,7 +68,9 @@ pub fn look_at<K: KeyOrder, S: Store>(
 }
 
 /// Makes memtables of the entries of these logs, with the last sequence number used. They are
-/// sealed if there are some, since nothing more is written to them.
+/// sealed if there are some, since nothing more is written to them. Logs of 2^32 entries, or of as
+/// many bytes of keys and values, are answered as out of memory; a flush keeps the database's own
+/// far below that.
 pub fn sealed_memory<K: KeyOrder>(
     alloc: Global,
     entries: &[Entry],

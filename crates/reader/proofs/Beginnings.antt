@@ -41,7 +41,7 @@ held_found order old whole found tables read same lists in_order sound sealed = 
   last = sealed.last;
 }
 
--- So it is shown, whichever map it has.
+-- So it is shown, for any map that it has.
 pub shown_found : (order : Order) (old : Files) (whole : Whole) (tables : List PlacedTable) → RecoveredLaw → HoldsRead order old whole tables
     → (d : Directory) (contents : Contents) → IsConsistent order old d → IsView (entries_in d) (used_in d) contents → Shows order whole tables contents
 shown_found order old whole tables law held d contents good view =

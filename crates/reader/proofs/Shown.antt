@@ -119,7 +119,7 @@ module _ {K : Type 0} {g : _} (cmp : List ℕ → List ℕ → Ordering) (kept :
         tables = λ number read. let there = h.tables number read in (there.0, there.1, subst (λ (file : Option (List ℕ)). IsSome file) (sym (keeps.files number read)) there.2);
       }
 
--- what any scan reads is the same behind a call that only reads
+-- what any scan reads is the same after a call that only reads
 pub keeps_read : {numbers : ℕ → Type 0} (cmp : List ℕ → List ℕ → Ordering) (old new : Whole) → Carries cmp numbers old.seen new.seen → LeavesMemories old.memory new.memory → IsTrue new.seen.facts.faithful
     → (sequence : ℕ) → KeepsUpTo cmp sequence old new
 keeps_read cmp old new carries left f sequence = record {

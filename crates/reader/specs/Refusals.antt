@@ -17,8 +17,8 @@ abbrev pub RefusesReader : Order → DbError → Facts → Facts → Type 0
 RefusesReader order error.NoDatabase old new = IsTrue new.faithful → IsEmpty old.files
 RefusesReader order e old new = RefusesLook order e old new
 
--- Why a key isn't read: out of memory, while the store didn't fail, or since it failed; Corrupt,
--- where no map is shown; Unsupported only where one of the tables is past a limit of reading.
+-- Why a key isn't read: out of memory, while the store didn't fail, or since it failed. Corrupt: no
+-- map is shown. Unsupported only if one of the tables is past a limit of reading.
 abbrev pub RefusesRead : Order → List PlacedTable → Whole → Whole → DbError → Type 0
 RefusesRead order tables old new error.OutOfMemory = new.seen.facts.failures ≡ old.seen.facts.failures
 RefusesRead order tables old new error.Io = old.seen.facts.failures < new.seen.facts.failures

@@ -32,7 +32,7 @@ impl Movement<'_> {
 
 /// Moves an iterator, and returns a copy of the pair on which it stands then, or None if there is
 /// none. `NoPlace`: a step of an iterator that stands nowhere. If the move or the copy fails, it
-/// stays where it stood.
+/// stays where it stood; a move before a failed copy is taken back.
 pub fn move_iterator<K: KeyOrder, S: Store>(
     alloc: Global,
     source: &mut Sources<K, S>,

@@ -161,7 +161,7 @@ logged-replaced d before last next more parts added =
     ∙ sym (append_assoc (logged before) (logged (last ∷ [])) more)
     ∙ ap (λ (es : List Entry). es ++ more) (sym (logged-append before (last ∷ [])) ∙ ap logged (sym parts))
 
--- files with another text behind the last log's name
+-- files with another text after the last log's name
 put : Files → LogContent → List ℕ → Files
 put files last text = insert files (name_of (Log last.number)) text
 
@@ -360,7 +360,7 @@ failed_append order files log position entries used n os payload added text a th
 
 -- ---- the parts that stay
 
--- what a record behind the last log leaves, by its number
+-- what a record after the last log leaves, by its number
 ExtendsTo : Order → Files → Directory → List Operation → List ℕ → ℕ → ℕ → Type 0
 ExtendsTo order files d os text log position =
     (e : Directory) × IsConsistent order (insert files (name_of (Log log)) text) e × EndsAt (insert files (name_of (Log log)) text) e log position
@@ -391,7 +391,7 @@ extend order files d log position os payload added text h ends there spelled add
     let Q : ℕ → Type 0 = λ n. ExtendsTo order files d os (text ++ added) log n in
     subst Q total (subst P ends.number made)
 
--- what a beginning of a record behind the last log leaves, by its number
+-- what a beginning of a record after the last log leaves, by its number
 FailsTo : Order → Files → Directory → List Operation → List ℕ → ℕ → Type 0
 FailsTo order files d os text log =
     (e : Directory) × IsConsistent order (insert files (name_of (Log log)) text) e
@@ -436,7 +436,7 @@ failed_extend order files d log position n os payload added text h ends there sp
       | inr whole ↦ subst P ends.number (fail_whole order files d ends.before ends.last os payload new h ends.logs spelled whole)
     ]
 
--- the tables stay, and the entries stand behind those that were logged
+-- the tables stay, and the entries stand after those that were logged
 pub logged-extended : (d e : Directory) (more : List Entry) → IsExtended d e more → (e.tables ≡ d.tables) × (logged e.logs ≡ logged d.logs ++ more)
 logged-extended d e more x = (
   ap (λ (f : Directory). f.tables) x.new,

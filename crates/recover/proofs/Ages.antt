@@ -19,7 +19,7 @@ use Rattle.recover.specs.Tables.{TableContent, HasTable, InTables, AreTwoTables,
 use Rattle.recover.proofs.Closed.{no_same}
 use Rattle.recover.proofs.PairChecks.{apart_by, newer_from, newer_to}
 
--- ---- one behind another
+-- ---- one after another
 
 no_newer_trans : (l p m q n r : ℕ) → IsNoNewer l p m q → IsNoNewer m q n r → IsNoNewer l p n r
 no_newer_trans l p m q n r (inl x) (inl y) = inl (omega (arith, x, y))
@@ -210,7 +210,7 @@ module _ (order : Order) (files : Files) (logged : List Entry) (recorded : ℕ) 
       let c = content_at tables contents came.place of.placed g of.placed_is in
       none (newer_from logged c.content.entries c.older.newer l came.entry i (of.inside c.content.entries c.has) key)
 
-  -- `b` doesn't come in front of `a`, and may not follow it
+  -- `b` doesn't come before `a`, and may not follow it
   pub not_behind : IsTotalOrder order.cmp → (tables : List PlacedTable) (contents : List TableContent) (a b : Came) → AreByLevel tables → IsOfTable order files tables a → IsOfTable order files tables b
       → (a.place ≡ b.place → ComesBefore order a.entry b.entry) → (ComesBefore order b.entry a.entry → ⊥) → IsBroken a b → Good tables contents → ⊥
   not_behind o tables contents a b levels of_a of_b beside front broken g = elim (cases_eq a.place b.place) [

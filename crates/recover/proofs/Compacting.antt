@@ -1,4 +1,4 @@
--- Outputs in place of inputs.
+-- Outputs instead of inputs.
 use Rattle.std.proofs.Common.{◌≡◌, inl, inr, List, [], ◌∷◌, ◌++◌, ℕ, ◌<◌, ◌≤◌, is_some, refl, sym, ap, ◌∙◌, subst, arith}
 use Rattle.ikey.specs.Orders.{Order}
 use Rattle.store.specs.Files.{Files}
@@ -149,7 +149,7 @@ module _ (order : Order) (old new : Files) (d : Directory) (edits : List (List F
     recorded = λ f i. let le : f.sequence ≤ d.layout.last_sequence = h.recorded f (was_tabled f i) in omega (arith, le, c.last_sequence);
   }
 
--- the entries of two parts and those behind them
+-- the entries of two parts and those after them
 three : (contents chosen rest : List TableContent) (logs : List Entry) → AreParted contents chosen rest → SameEntries (tabled contents ++ logs) (tabled chosen ++ (tabled rest ++ logs))
 three contents chosen rest logs h e = (to, from)
   where

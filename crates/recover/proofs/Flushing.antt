@@ -1,4 +1,4 @@
--- A table of level 0 in place of sealed logs.
+-- A table of level 0 instead of sealed logs.
 use Rattle.std.proofs.Common.{◌≡◌, ◌⊎◌, inl, inr, Bool, true, false, cond, List, [], ◌∷◌, ◌++◌, ℕ, ◌<◌, ◌≤◌, max, map, is_some, refl, sym, ap, ◌∙◌, subst, arith}
 use Rattle.std.specs.List.{AllByRecursion}
 use Rattle.std.specs.FinMap.{contains_key}
@@ -35,7 +35,7 @@ were_read (r ∷ records) [] h = absurd h
 pub kept_by : (order : Order) (files : Files) (number : ℕ) (edits : List (List Field)) (layout : Layout) → HasManifest order files number edits layout → IsKept layout
 kept_by order files number edits layout h = kept_layout order.name edits layout (were_read h.spelled.records edits h.spelled.spelled) h.spelled.folded
 
--- behind a table of a deeper level all are
+-- after a table of a deeper level all are
 deeper : (c : TableContent) (contents : List TableContent) (other : TableContent) → AllByRecursion (IsFollowedBy c.placed) (map (λ (t : TableContent). t.placed) contents) → 0 < c.placed.level → InTables contents other → 0 < other.placed.level
 deeper c [] other h some i = absurd i
 deeper c (x ∷ contents) other h some (inl e) =
@@ -48,7 +48,7 @@ goes_before new c zero above is = grind (arith, nat_tests)
 
 -- ---- two tables
 
--- the new table behind another
+-- the new table after another
 behind_other : (order : Order) (c new : TableContent) → new.placed.level ≡ 0 → AreNewer new c → AreTwoTables order c new
 behind_other order c new zero newer = (λ lt. absurd (omega (arith, lt, zero)), λ same some. absurd (omega (arith, same, some, zero)), λ a b. newer)
 

@@ -1,4 +1,4 @@
--- The lengths of live logs, and what is known of a directory by them.
+-- The lengths of logs in use, and what is known of a directory by them.
 use Rattle.std.proofs.Common.{◌≡◌, ℕ, ◌+◌, ◌<◌, Bool, true, false, List, [], ◌∷◌, ◌++◌, take, get_or, None, IsTrue, refl, sym, ap, ◌∙◌, subst, length}
 use Rattle.std.specs.Prelude.{Contains}
 use Rattle.std.specs.FinMap.{get}

@@ -72,7 +72,7 @@ module _ (order : Order) (o : IsTotalOrder order.cmp) where
   pub is_lawful : IsStrictWeakOrder less
   is_lawful = ranks_by age_total (λ (l : Logged). l)
 
-  -- the second isn't in front of the first
+  -- the second isn't before the first
   in_turn : IsAntisymmetric order.cmp → (a b : Logged) → less b a ≡ false → (order.cmp a.key.now b.key.now ≡ Less) ⊎ ((a.key.now ≡ b.key.now) × (a.sequence ≤ b.sequence))
   in_turn exact a b not = by (order.cmp b.key.now a.key.now) refl
     where
@@ -120,7 +120,7 @@ module _ (order : Order) (o : IsTotalOrder order.cmp) (logged : List Logged) (ke
       let P : List ℕ → Type 0 = λ m. order.cmp k m ≡ Less in
       let t : Equal ≡ Less = sym (tied_itself o k) ∙ subst P (sym same) lt in cc
 
-  -- what stands in front of the place is below the key
+  -- what stands before the place is below the key
   front_lower : (i : ℕ) (note : Logged) → slice_get logged i ≡ Some note → i < at → order.cmp note.key.now key ≡ Less
   front_lower i note x lt = by at refl
     where
@@ -147,7 +147,7 @@ module _ (order : Order) (o : IsTotalOrder order.cmp) (logged : List Logged) (ke
         let P : Logged → Type 0 = λ l. order.cmp l.key.now key ≡ Less in
         found first (slice_get_within logged at first is) (subst P (sym (get_or_from_slice_get logged at first first is)) below)
 
-    -- it stands at the place, or behind it
+    -- it stands at the place, or after it
     at_place : (i : ℕ) (note : Logged) → slice_get logged i ≡ Some note → note.key.now ≡ key → (note ≡ first) ⊎ ((first.key.now ≡ key) × (first.sequence ≤ note.sequence))
     at_place i note x same = elim (cases_lt i at) [
       | inl lt ↦ absurd (never_less note.key.now key (front_lower i note x lt) same)

@@ -40,7 +40,7 @@ same_before order a b e f k s l t (inl less) =
     inl (subst P k (subst Q l less))
 same_before order a b e f k s l t (inr older) = inr (sym k ∙ older.0 ∙ l, omega (arith, s, t, older.1))
 
--- one that doesn't come in front, and may follow, comes behind
+-- one that doesn't come before, and may follow, comes after
 pub comes_behind : (order : Order) → IsTotalOrder order.cmp → IsAntisymmetric order.cmp → (a b : Came) → (ComesBefore order b.entry a.entry → ⊥) → MayFollow a b → ComesBehind order a b
 comes_behind order o exact a b front follows = by (order.cmp a.entry.key b.entry.key) refl
   where
@@ -75,7 +75,7 @@ module _ {K : Type 0} (order : Order) (o : IsTotalOrder order.cmp) (lanes : List
     ],
   )
 
-  -- its key isn't in front of itself
+  -- its key isn't before itself
   not_itself : (other : Lane K) → other ≡ lane → IsHeadBefore order other.walk.head lane.walk.head → ⊥
   not_itself other same before =
       let P : Lane K → Type 0 = λ a. IsHeadBefore order a.walk.head lane.walk.head in
@@ -89,7 +89,7 @@ module _ {K : Type 0} (order : Order) (o : IsTotalOrder order.cmp) (lanes : List
     best_at : (h : IsLeastOf order lanes index (Some b)) → h.0 ≡ best
     best_at h = let both : Some h.0 ≡ Some best = sym h.1 ∙ best_is in cc
 
-    -- it comes in front of the best
+    -- it comes before the best
     pub least_lower : lane.stands ≡ true → IsHeadBefore order lane.walk.head best.walk.head → IsLeastOf order lanes index (Some b) → IsLeastOf order lanes (index + 1) (Some index)
     least_lower up lower h = (
       lane,
@@ -135,7 +135,7 @@ among_push (y ∷ xs) x e (inr i) = elim (among_push xs x e i) [ inl j ↦ inl (
 abbrev pub came_of : {K : Type 0} → Lane K → Entry → Came
 came_of lane here = record { place = lane.place; level = lane.level; entry = here }
 
--- the next one comes behind the last
+-- the next one comes after the last
 pub row_more : (order : Order) → IsTotalOrder order.cmp → IsAntisymmetric order.cmp → (last : Last) (came : List Came) (next : Came) → HaveCome order came → IsLast last came → IsNotBefore order last next.entry
     → (last.some ≡ true → (c : Came) → IsHead last.head c.entry → c.place ≡ last.place → c.level ≡ last.level → MayFollow c next) → HaveCome order (next ∷ came)
 row_more order o exact last [] next h is front follows = ((λ a i. absurd i), tt)
@@ -176,7 +176,7 @@ module _ {K : Type 0} (order : Order) (o : IsTotalOrder order.cmp) (files : File
   waits_more place placed key at waits is some before =
       early place placed key at waits is (same_before order (stamp key.user key.sequence) (stamp next.head.user.items next.head.sequence) (stamp key.user key.sequence) (stamp lane.walk.head.user.items lane.walk.head.sequence) refl refl next_user next_sequence before)
 
-  -- the head of a lane isn't in front of what came last
+  -- the head of a lane isn't before what came last
   not_before : (head : Head) → (IsHeadBefore order head lane.walk.head → ⊥) → IsNotBefore order next (stamp head.user.items head.sequence)
   not_before head none some before =
       none (same_before order (stamp head.user.items head.sequence) (stamp next.head.user.items next.head.sequence) (stamp head.user.items head.sequence) (stamp lane.walk.head.user.items lane.walk.head.sequence) refl refl next_user next_sequence before)

@@ -76,7 +76,7 @@ split_first pair entry behind (o ∷ os) xs entries is h e =
     let one : o ≡ entry = one_pair pair o entry h.0 is in
     (os, e ∙ ap (λ (x : InternalEntry). xs ++ entry_of x ∷ map entry_of os) one, h.1)
 
--- what was passed stands in front of the entry at hand, and what follows behind
+-- what was passed stands before the entry at hand, and what follows after it
 around : (order : Order) (files : Files) (placed : PlacedTable) (table : Opened) (next : ℕ) (front : List Pair) (pair : Pair) (tail : List Pair) (kept : List InternalEntry) (entry : InternalEntry) (entries : List Entry)
     → AreFirst order files placed table next (front ++ pair ∷ tail) → ArePairs front kept → IsPair pair entry → HasTable order files (content_of placed entries)
     → (others : List InternalEntry) × (entries ≡ map entry_of kept ++ entry_of entry ∷ map entry_of others) × ((rest : List Pair) × ArePairs (tail ++ rest) others)
@@ -126,7 +126,7 @@ no_rise_by order placed other behind xs entries entry head (o ∷ os) k e sorted
     let s : AreSorted order (xs ++ entry_of entry ∷ (entry_of o ∷ map entry_of os)) = subst (λ (es : List Entry). AreSorted order es) e sorted in
     none o.key k.0.key (before_head order head (entry_of entry) (entry_of o) is (sorted_at order xs (entry_of entry) (entry_of o) (map entry_of os) s))
 
--- where the next pair's key doesn't come behind that at hand, there is no such table
+-- where the next pair's key doesn't come after that at hand, there is no such table
 no_rise : (order : Order) (files : Files) (placed : PlacedTable) (table : Opened) (next : ℕ) (front : List Pair) (pair other : Pair) (tail : List Pair) (kept : List InternalEntry) (entry : InternalEntry) (head : Head)
     → AreFirst order files placed table next (front ++ pair ∷ (other ∷ tail)) → ArePairs front kept → IsPair pair entry → IsHead head (entry_of entry)
     → ((key : Key) → IsKey other.key key → ComesBefore order (stamp head.user.items head.sequence) (stamp key.user key.sequence) → ⊥) → IsOnly Never order files placed

@@ -21,7 +21,7 @@ HasLength files log = (bytes : List ℕ) × (get files (name_of (Log log.number)
 abbrev pub numbers_of : List LogLength → List ℕ
 numbers_of logs = map (λ log. log.number) logs
 
--- the live logs, all that are there, by rising number
+-- the logs in use, all that are there, by rising number
 pub record AreLiveLengths (files : Files) (layout : Layout) (logs : List LogLength) : Type 0 where
   pub lengths : AllByRecursion (HasLength files) logs
   pub rising : RiseFrom 0 (numbers_of logs)

@@ -25,8 +25,8 @@ use Rattle.recover.specs.Report.{log_summary}
 use Rattle.recover.specs.Numbers.{number_of, IsNextNumber}
 use Rattle.recover.specs.Directory.{Directory, IsConsistent, AreEdits, HasManifest}
 
--- A call that only reads: what holds of any store, and while it is faithful that the files and what
--- of them is synced stay, and that it does none of the calls that change something.
+-- A call that only reads: what holds of any store. And while it is faithful, the files and what of
+-- them is synced stay, and it does none of the calls that change something.
 pub record ReadsDirectory {T : Type 0} (old new : Facts) (result : Result T DbError) : Type 0 where
   pub faithful : IsTrue new.faithful → IsTrue old.faithful
   pub failures : old.failures ≤ new.failures
@@ -89,8 +89,8 @@ IsNumberUpTo order files number = (n : ℕ) × IsNextNumber order files n × (nu
 
 -- ---- contents
 
--- What was read of a directory: its MANIFEST, and its live logs. Of the tables, which aren't read,
--- their files are there with the sizes of their edits, and the keys of these are in order.
+-- What was read of a directory: its MANIFEST, and its logs in use. Of the tables, which aren't
+-- read, their files are there with the sizes of their edits, and the keys of these are in order.
 pub record Recovers (order : Order) (files : Files) (recovered : Recovered) : Type 0 where
   pub number : ℕ
   pub edits : List (List Field)
@@ -120,7 +120,7 @@ IsInconsistent order files = (d : Directory) → IsConsistent order files d → 
 abbrev pub HasNoManifest : Order → Files → Type 0
 HasNoManifest order files = (number : ℕ) (edits : List (List Field)) (layout : Layout) → HasManifest order files number edits layout → ⊥
 
--- The bytes are a log, and so many of its first records are edits that name a table past the limit
+-- The bytes are a log, and so many of its first records are edits. They name a table past the limit
 -- of numbers, or all of them are edits, of another order of keys.
 pub record SpellsBeyond (order : Order) (bytes : List ℕ) : Type 0 where
   pub records : List (List ℕ)

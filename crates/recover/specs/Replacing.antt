@@ -20,7 +20,7 @@ LiesBelow order content entries = (e f : Entry) → Among content.entries e → 
 abbrev pub LiesAbove : Order → TableContent → List Entry → Type 0
 LiesAbove order content entries = (e f : Entry) → Among content.entries e → Among entries f → ComesBefore order f e
 
--- The inputs may be replaced by tables of this level: of the tables that stay, those above it are
+-- The inputs may be replaced by tables of this level. Of the tables that stay, those above it are
 -- newer than the inputs, those below it are older, and those of the level itself lie beside all of
 -- the inputs.
 pub record MayReplace (order : Order) (inputs rest : List TableContent) (level : ℕ) : Type 0 where

@@ -66,7 +66,7 @@ LieApart order a b = ((e f : Entry) → Among a.entries e → Among b.entries f 
 abbrev pub AreNewer : TableContent → TableContent → Type 0
 AreNewer a b = (e f : Entry) → Among a.entries e → Among b.entries f → e.key ≡ f.key → f.sequence < e.sequence
 
--- What holds of any two tables, the first of which comes before the second by level and number: a
+-- What holds of any two tables, the first of which comes before the second by level and number. A
 -- level below 0 has no overlaps, a shallower one is newer, and in level 0 the greater number is.
 abbrev pub AreTwoTables : Order → TableContent → TableContent → Type 0
 AreTwoTables order a b =

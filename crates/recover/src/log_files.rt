@@ -19,11 +19,11 @@ const BLOCK: usize = 32_768;
 /// How many bytes are read at once: those of 32 blocks.
 const PIECE: u64 = 1_048_576;
 
-/// Reads all bytes of a file that should be a log, or `None` if it isn't there. It is read by
-/// pieces, and the first block of each is judged before more is read. So a long file of rubbish
-/// costs what comes before the rubbish and two pieces. The room grows by doubling, and to no more
-/// than the store says are there; a file of one piece isn't copied. Corrupt, as of this kind: a
-/// block that was judged is none of a log. `log_in` judges all of it.
+/// Reads all bytes of a file that should be a log, or `None` if it isn't there. It reads by pieces,
+/// and judges the first block of each before it reads more. So a long file of rubbish costs its
+/// sound part and two pieces. The room grows by doubling, and to no more than the store says are
+/// there; a file of one piece isn't copied. Corrupt, as of this kind: a block that was judged is
+/// none of a log. It may be a later block than the first damaged one; `log_in` judges all.
 pub fn read_log_file<S: Store>(
     alloc: Global,
     store: &mut S,

@@ -25,7 +25,8 @@ use logfile::{Tail, read_log};
 use std::alloc::Global;
 use store::{Store, Why};
 
-/// Caps the bytes of `CURRENT`: the name of a MANIFEST has 29 at most.
+/// Caps the bytes of `CURRENT`: the name of a MANIFEST has 29 at most. A longer file names no
+/// MANIFEST, and its length is the error.
 const MOST_IN_CURRENT: u64 = 64;
 
 /// Holds what a MANIFEST says.
@@ -37,7 +38,8 @@ pub struct Manifest {
     pub highest: u64,
 }
 
-/// Reads `CURRENT` and the MANIFEST that it names.
+/// Reads `CURRENT` and the MANIFEST that it names. Corrupt with `Missing`: one of the two isn't
+/// there.
 pub fn read_manifest<K: KeyOrder, S: Store>(
     alloc: Global,
     store: &mut S,
@@ -85,6 +87,7 @@ pub fn read_manifest<K: KeyOrder, S: Store>(
 }
 
 // The number of the MANIFEST that the bytes of `CURRENT` name, with a newline after its name.
+// `Length`: there is no newline. `Kind`: it isn't a MANIFEST's name.
 fn manifest_number(bytes: &[u8]) -> Result<u64, DbError>
     ensures found { IfOk result (λ number. IsNumbered number × (bytes.now ≡ name_of (FileName.Manifest number) ++ 10 ∷ [])) }
     ensures refused { IfErr result (λ error. RefusesBytes error

@@ -206,8 +206,8 @@ struct BlockRead<K: KeyOrder> {
     block: BlockCursor<Internal<K>>,
 }
 
-// A walk over the table of this file, which has read the first block that has pairs, and has no key
-// at hand yet.
+// An iteration over the table of this file, which has read the first block that has pairs, and has
+// no key at hand yet.
 fn open_first<K: KeyOrder, S: Store>(
     alloc: Global,
     store: &mut S,

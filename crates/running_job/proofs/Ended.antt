@@ -74,7 +74,7 @@ module _ {K : Type 0} {g : Ghosts K} (order : Order) (work : OpenJob K g) (old :
   refuses_end few new (Err (Before NumbersSpent)) leaves why = absurd why
   refuses_end few new (Err (Before _)) leaves why = absurd why
 
-  -- ---- a stop in the middle
+  -- ---- a process crash in the middle
 
   pub end_unstopped : LeavesOnly old old (EndMayLeave order old next last_sequence manifest tables work)
   end_unstopped =

@@ -61,7 +61,7 @@ module _ {K : Type 0} {g : Ghosts K} (order : Order) (work : OpenJob K g) (old :
   ends_each numbered few new result each ideal after differs c t d came inputs rest can =
       each ideal after differs c can.outputs (stayed ideal d came inputs rest can) t (deep_of order.cmp work) came d inputs rest (installable_over numbered few ideal d came inputs rest can)
 
-  -- whose tables it puts in where the device failed at the edit
+  -- whose tables it puts in if the store failed at the edit
   pub puts_each : AreNumbered work.job.outputs next → next ≤ 2 ^ 62 → (new : Facts) (result : Result (Installed K) FlushError)
       → OfEach (λ ideal after. HasSameOutputs work.job.outputs old.files ideal → HaveStayed work.job.outputs old → InstallPutsOwn order work.job (with_files old ideal) (with_files new after) next last_sequence manifest tables result) old.files new.files
       → OfEach (λ ideal after. EndPutsOwn order old new ideal after next last_sequence manifest tables work result) old.files new.files
@@ -86,7 +86,7 @@ module _ {K : Type 0} {g : Ghosts K} (order : Order) (work : OpenJob K g) (old :
         },
       )
 
-  -- ---- a stop in the middle
+  -- ---- a process crash in the middle
 
   abbrev pub StopsEach : Files → Type 0
   StopsEach files = OfEach (λ ideal after. EndMayLeaveOver order old ideal after next last_sequence manifest tables work) old.files files

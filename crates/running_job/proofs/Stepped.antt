@@ -163,7 +163,7 @@ module _ {K : Type 0} {g : Ghosts K} {H S : Type 0} (order : Order) (v : View H 
       (beside (whole_of v a).seen (v.facts (v.store_of b)) (IsMineUpTo before.job.outputs next more) (λ n mine. mine_small before.job.outputs next n small r.numbered (mine-in before.job.outputs next more n fits mine)) t writes order.cmp (is_input before) lasts
       (λ n mine kept. r.unkept n kept (mine-in before.job.outputs next more n fits mine)) (λ n is mine. r.outside n is (mine-in before.job.outputs next more n fits mine))).files
 
-  -- ---- the job behind a step
+  -- ---- the job after a step
 
   pub may_go : SoundLasts → (before after : OpenJob K g) (a b : H) (next more : ℕ) → next ≤ more → more < 2 ^ 64 → next < 2 ^ 64 → Writing v before a b next more → Leaving order v before after.job.cursor a b next more
       → after.job.plan ≡ before.job.plan → after.version ≡ before.version → after.next ≤ more → (merged : ℕ) → after.merged ≡ shown (before.merged + merged) → KeepsMine before.job.outputs next after.job.outputs more → NumbersOn before.job.outputs next after.job.outputs more

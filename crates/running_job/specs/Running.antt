@@ -42,7 +42,7 @@ deep_of cmp work = is_covered_below cmp work.job.plan.output_level work.version.
 abbrev pub shown : ℕ → ℕ
 shown count = min count (2 ^ 64 - 1)
 
--- The job of a plan for the tables of this directory: of its inputs' entries these came, and what
+-- The job of a plan for the tables of this directory. Of its inputs' entries these came, and what
 -- is needed of them is written; those are left, and its cursor stands on the first of them. No
 -- table that it writes is one that it reads, one of which something is kept beside the store, or
 -- one of the directory.
@@ -68,7 +68,7 @@ pub record IsRunning {K : Type 0} {g : _} (order : Order) (whole : Whole) (next 
   -- the blocks that it reads are intact
   pub intact : IsMergeIntact order.cmp work.job.cursor whole
 
--- The job is under way over contents that its inputs may have, as far as their blocks tell: of
+-- The job is under way over contents that its inputs may have, as far as their blocks tell. Of
 -- these contents' entries these came, and what is needed of them is written; those are left, and
 -- its cursor stands on the first of them.
 pub record MayRun {K : Type 0} {g : _} (order : Order) (whole : Whole) (next : ℕ) (contents : List TableContent) (work : OpenJob K g) (came left : List InternalEntry) : Type 0 where

@@ -40,7 +40,7 @@ line_inside start [] end before h within = tt
 line_inside start (place ∷ places) end before h within =
     (omega (arith, within, line_rises (end_of place.handle) places end h.2), line_inside (end_of place.handle) places end before h.2 within)
 
--- a block in front of the line, and one behind it
+-- a block before the line, and one after it
 line_from : (start : ℕ) (places : List Place) (end : ℕ) (handle : Handle) → AreInLine start places end → end_of handle ≤ start → AllByRecursion (DoNotOverlap handle) (handles_in places)
 line_from start [] end handle h front = tt
 line_from start (place ∷ places) end handle h front =

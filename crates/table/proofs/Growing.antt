@@ -23,7 +23,7 @@ stored_on file more handle block h =
       parts = ap (take (handle.size + 5)) (drop-append-le handle.offset file more front) ∙ take-append-le (handle.size + 5) (drop handle.offset file) more long ∙ h.parts;
     }
 
--- a block that stands behind the front
+-- a block that stands after the front
 pub stored_here : (file front behind block : List ℕ) (handle : Handle) → file ≡ front ++ (stored block ++ behind) → handle.offset ≡ length front → handle.size ≡ length block → IsStored file handle block
 stored_here file front behind block handle e at size =
     let rest : drop handle.offset file ≡ stored block ++ behind = (λ i. drop (at i) (e i)) ∙ drop-append_seam front (stored block ++ behind) in

@@ -47,7 +47,7 @@ among_new group h = (length group, omega (arith, length-append group (h ∷ []))
 abbrev IsHashed : List (List ℕ) → ℕ → ℕ → Type 0
 IsHashed hashes offset h = Among (get_or hashes (filter_index offset) []) h
 
--- and so is that of each of these pairs' user keys
+-- and that of each of these pairs' user keys is too
 abbrev AreHashed : List (List ℕ) → ℕ → List Pair → Type 0
 AreHashed hashes offset pairs = AllByRecursion (λ (pair : Pair). (key : Key) → IsKey pair.key key → IsHashed hashes offset (hash_of key.user)) pairs
 

@@ -72,7 +72,7 @@ pub kept_place : (cmp : List ℕ → List ℕ → Ordering) (order : IsTotalOrde
 kept_place cmp order offset index block new fresh key h last may few none =
     subst (IsKept cmp offset new) (sym none) (ended_index cmp order offset index block new (record { key = key; value = may.0 }) h last may.1 few)
 
--- and the offset behind it
+-- and the offset after it
 pub kept_moved : (cmp : List ℕ → List ℕ → Ordering) (offset size : ℕ) (index block new fresh : Added) (place : Pair) → IsKept cmp offset index block → IsKept cmp offset new fresh → new ≡ with_pair index place → size < 2 ^ 32
     → IsKept cmp (offset + (size + 5)) new fresh
 kept_moved cmp offset size index block new fresh place old h more small =

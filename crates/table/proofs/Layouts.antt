@@ -6,7 +6,7 @@ use Rattle.table.specs.declared.handle.Handle.{Handle}
 use Rattle.table.specs.Stored.{DoNotOverlap, AreSeparate, end_of}
 use Rattle.table.proofs.Apart.{ApartAt, all_at, all_from, to_at, from_at}
 
--- The first n blocks end up to here, one behind the other, and the last of them ends here.
+-- The first n blocks end up to here, one after the other, and the last of them ends here.
 pub record IsReached (end : ℕ) (hs : List Handle) (n reached : ℕ) : Type 0 where
   pub inside : reached ≤ end
   pub ends : (k : ℕ) (d : Handle) → k < n → end_of (get_or hs k d) ≤ reached

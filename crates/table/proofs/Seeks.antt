@@ -30,13 +30,13 @@ module _ (below : List ℕ → List ℕ → Type 0) (target : List ℕ) where
   all_append [] ys h k = k
   all_append (x ∷ xs) ys h k = (h.0, all_append xs ys h.1 k)
 
-  -- in front of it stand pairs that are below
+  -- before it stand pairs that are below
   pub first_behind : (front pairs : List Pair) (found : Option Pair) → AllBelow front → IsFirstOf below target pairs found → IsFirstOf below target (front ++ pairs) found
   first_behind front pairs None h k = all_append front pairs h k
   first_behind front pairs (Some p) h k =
       (front ++ k.0, k.1, ap (λ (t : List Pair). front ++ t) k.2 ∙ sym (append_assoc front k.0 (p ∷ k.1)), all_append front k.0 h k.3, k.4)
 
-  -- behind it stand others
+  -- after it stand others
   pub first_before : (pairs back : List Pair) (p : Pair) → IsFirstOf below target pairs (Some p) → IsFirstOf below target (pairs ++ back) (Some p)
   first_before pairs back p k = (k.0, k.1 ++ back, ap (λ (t : List Pair). t ++ back) k.2 ∙ append_assoc k.0 (p ∷ k.1) back, k.3, k.4)
 
@@ -134,7 +134,7 @@ pub sought_none : (cmp : List ℕ → List ℕ → Ordering) (target : List ℕ)
     → (blocks : List (List Pair)) → AreData cmp file places blocks → AllBelow (IsBelowInternal cmp) target (joined blocks)
 sought_none cmp target file places n p h blocks data_is = subst (AllBelow (IsBelowInternal cmp) target) (read_whole cmp file places n h.0 p h.1 blocks data_is) h.2
 
--- ---- in front of the first place
+-- ---- before the first place
 
 module _ (cmp : List ℕ → List ℕ → Ordering) (total : IsTotalOrder cmp) (target : List ℕ) where
   abbrev KeysBelow : List Place → Type 0

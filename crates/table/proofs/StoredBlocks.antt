@@ -1,4 +1,4 @@
--- A block and what stands behind it.
+-- A block and what stands after it.
 use Rattle.std.proofs.Common.{◌≡◌, ◌≢◌, ◌≤◌, ◌<◌, ◌+◌, ◌-◌, ◌^◌, inl, inr, ℕ, List, [], ◌∷◌, ◌++◌, length, take, drop, sym, ap, ◌∙◌, arith}
 use Rattle.std.proofs.lemmas.List.{length-append, length-take, length-drop}
 use Rattle.coding.specs.Checksum.{checksum, masked}
@@ -8,7 +8,7 @@ use Rattle.table.specs.declared.handle.Handle.{Handle}
 use Rattle.table.specs.Stored.{IsStored, trailer_of, trailer_of_type, end_of}
 use Rattle.table.specs.Refusals.{HasOtherType, IsUnsupported}
 
--- what stands behind a block of these bytes
+-- what stands after a block of these bytes
 pub parts_of_stored : (bytes front block : List ℕ) (kind other : ℕ) (stored : List ℕ) → bytes ≡ front ++ (kind ∷ stored) → length front ≡ length bytes - 5 → bytes ≡ block ++ trailer_of_type other block
     → (front ≡ block) × (kind ≡ other) × (stored ≡ fixed32 (masked (checksum (front ++ kind ∷ []))))
 parts_of_stored bytes front block kind other stored e len h =
@@ -56,7 +56,7 @@ pub only_long : (file : List ℕ) (handle : Handle) (block : List ℕ) → IsSto
 only_long file handle block h (inl long) = long.1
 only_long file handle block h (inr other) = absurd (one_type file handle block h other)
 
--- a block that ends behind the file
+-- a block that ends after the file
 pub not_inside : (file : List ℕ) (handle : Handle) → length file < end_of handle → ((block : List ℕ) → IsStored file handle block → ⊥) × (IsUnsupported file handle → ⊥)
 not_inside file handle short = (
   λ block h. omega (arith, short, stored_inside file handle block h),

@@ -152,7 +152,7 @@ sync_keeps old new name same synced t =
     ∙ ap (λ (b : Bool). cond b (get old.files name) (old.synced name)) (ap is_eq (tied_itself nat_list_cmp_total name))
     ∙ ap (λ (f : Files). get f name) (sym (same t))
 
--- behind it no call waits for one
+-- after it no call waits for one
 pub sync_ends : (old new : Facts) (name : List ℕ) → Adds old new (Sync name) → behind_sync [] new.calls ≡ []
 sync_ends old new name adds = ap (behind_sync []) adds.0 ∙ behind_more [] old.calls (record { found = disk_of old; change = Sync name } ∷ [])
 

@@ -26,7 +26,7 @@ pub named_pair : (start new : Added) (key name value bytes : List ℕ) → start
 named_pair start new key name value bytes none one k v =
     one ∙ (λ i. with_pair (none i) (record { key = k i; value = v i }))
 
--- four writings, one behind another
+-- four writings, one after another
 pub four_put : (a b c d old one two three new : List ℕ) → one ≡ old ++ a → two ≡ one ++ b → three ≡ two ++ c → new ≡ three ++ d → new ≡ old ++ (a ++ (b ++ (c ++ d)))
 four_put a b c d old one two three new p q r s =
     s ∙ ap (λ (v : List ℕ). v ++ d) (r ∙ ap (λ (v : List ℕ). v ++ c) (q ∙ ap (λ (v : List ℕ). v ++ b) p))

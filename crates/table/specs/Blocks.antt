@@ -9,7 +9,7 @@ use Rattle.table.specs.Intact.{floor_of}
 use Rattle.table.specs.Table.{HasBlock}
 use Rattle.table.specs.declared.handle.Place.{Place}
 
--- the file has these pairs in the block of a place, behind a block of this bound, and each is right
+-- the file has these pairs in the block of a place, after a block of this bound, and each is right
 abbrev pub HasRight : (List ℕ → List ℕ → Ordering) → List ℕ → Option (List ℕ) → Option (List ℕ) → Place → List Pair → Type 0
 HasRight cmp file filter previous place pairs = HasBlock cmp file place.handle pairs × AllByRecursion (IsRight cmp filter previous place) pairs
 

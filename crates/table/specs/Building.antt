@@ -72,8 +72,7 @@ EndsBlock old new pair =
 
 -- ---- what stands in the file
 
--- The blocks stand one behind another from this offset to that end, and none is too long to be
--- read.
+-- The blocks stand one after another from this offset to that end, and none is too long to be read.
 abbrev pub AreInLine : ℕ → List Place → ℕ → Type 0
 AreInLine offset [] end = offset ≡ end
 AreInLine offset (place ∷ places) end = (place.handle.offset ≡ offset) × (place.handle.size ≤ 2 ^ 30) × AreInLine (end_of place.handle) places end

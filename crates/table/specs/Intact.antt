@@ -21,14 +21,14 @@ pub record IsWithin (cmp : List ℕ → List ℕ → Ordering) (floor : Option (
 abbrev pub AreWithin : (List ℕ → List ℕ → Ordering) → Option (List ℕ) → List ℕ → List Pair → Type 0
 AreWithin cmp floor most pairs = AllByRecursion (IsWithin cmp floor most) pairs
 
--- so are all data blocks, in the order of their places; in front of the first there is this bound,
--- or none
+-- so are all data blocks, in the order of their places; before the first there is this bound, or
+-- none
 abbrev pub AreAllWithin : (List ℕ → List ℕ → Ordering) → Option (List ℕ) → List Place → List (List Pair) → Type 0
 AreAllWithin cmp floor [] [] = Unit {0}
 AreAllWithin cmp floor (place ∷ places) (pairs ∷ others) = AreWithin cmp floor place.key pairs × AreAllWithin cmp (Some place.key) places others
 AreAllWithin cmp floor places blocks = ⊥
 
--- the bound of the place in front of the one of this index
+-- the bound of the place before the one of this index
 abbrev pub floor_of : List Place → ℕ → Option (List ℕ)
 floor_of places zero = None
 floor_of places (suc index) = option_map (λ (place : Place). place.key) (slice_get places index)

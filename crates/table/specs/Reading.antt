@@ -14,9 +14,9 @@ use Rattle.store.specs.Files.{Facts}
 use Rattle.store.specs.Troubles.{NamesFile}
 use Rattle.store.specs.declared.trouble.Trouble.{Trouble}
 
--- A call that only reads: once a store has returned something else than what was written, that is
--- so for good; a faithful one has the same files afterwards, and it does none of the calls that
--- change something; the failures don't fall, none of them is a failed write, and the lock isn't
+-- A call that only reads. Once a store has returned something else than what was written, that is
+-- so for good. A faithful one has the same files afterwards, and it does none of the calls that
+-- change something. The failures don't fall, none of them is a failed write, and the lock isn't
 -- asked for.
 pub record Reads (old new : Facts) : Type 0 where
   pub faithful : IsTrue new.faithful → IsTrue old.faithful
@@ -54,9 +54,9 @@ Finds old new name is = IsTrue new.faithful → (file : List ℕ) × HasFile old
 abbrev pub Answers : Facts → Facts → List ℕ → (List ℕ → Type 0) → Type 0
 Answers old new name is = IsTrue new.faithful → (file : List ℕ) → HasFile old name file → is file
 
--- Why a file isn't read. Out of memory, while no call of the store failed, or since one failed;
--- Corrupt, where of a faithful store the file isn't there or is damaged; Unsupported, where it
--- isn't there or isn't supported.
+-- Why a file isn't read. Out of memory: no call of the store failed, or one did. Corrupt: in a
+-- faithful store the file isn't there or is damaged. Unsupported: it isn't there or isn't
+-- supported.
 abbrev pub Refuses : DbError → Facts → Facts → List ℕ → (List ℕ → Type 0) → (List ℕ → Type 0) → Type 0
 Refuses OutOfMemory old new name damaged unsupported = new.failures ≡ old.failures
 Refuses Io old new name damaged unsupported = old.failures < new.failures

@@ -38,7 +38,7 @@ pub record IsPushed (old new : Building) (pair : Pair) : Type 0 where
   pub short : data_length (old.block ++ pair ∷ []) ≤ 2 ^ 30
   pub new_is : new ≡ record old { block = old.block ++ pair ∷ []; hashes = with_hash old.hashes (filter_index old.offset) (hash_of key.user) }
 
--- the bytes stand behind the file of this name
+-- the bytes stand after the file of this name
 abbrev pub Appended : Facts → Facts → List ℕ → List ℕ → Type 0
 Appended old new name bytes = IsTrue new.faithful → (before : List ℕ) → HasFile old name before → HasFile new name (before ++ bytes)
 

@@ -1,5 +1,4 @@
--- Blocks within a file (LevelDB's doc/table_format.md): where they are, and what stands behind
--- each.
+-- Blocks within a file (LevelDB's doc/table_format.md): where they are, and what stands after each.
 use Rattle.std.specs.Prelude.{◌≡◌, ◌<◌, ◌≤◌, ◌+◌, ◌^◌, ◌⊎◌, ℕ, List, [], ◌∷◌, ◌++◌, length, take, drop}
 use Rattle.std.specs.List.{AllByRecursion}
 use Rattle.coding.specs.Checksum.{checksum, masked}
@@ -12,11 +11,11 @@ use Rattle.table.specs.declared.handle.Handle.{Handle}
 abbrev pub IsNumber : List ℕ → ℕ → Type 0
 IsNumber bytes n = IsVarint bytes n × (n < 2 ^ 64)
 
--- a handle is written as its offset, and its size behind it
+-- a handle is written as its offset, and its size after it
 abbrev pub IsHandle : List ℕ → Handle → Type 0
 IsHandle bytes handle = InTurn IsNumber IsNumber bytes (handle.offset, handle.size)
 
--- behind a block stand its type, and the stored checksum of block and type
+-- after a block stand its type, and the stored checksum of block and type
 abbrev pub trailer_of_type : ℕ → List ℕ → List ℕ
 trailer_of_type kind block = kind ∷ fixed32 (masked (checksum (block ++ kind ∷ [])))
 

@@ -62,7 +62,7 @@ ArePairs [] [] = Unit {0}
 ArePairs (pair ∷ pairs) (entry ∷ entries) = IsPair pair entry × ArePairs pairs entries
 ArePairs pairs entries = ⊥
 
--- Behind this frame the file has these entries: those of its data blocks joined, at least one,
+-- After this frame the file has these entries: those of its data blocks joined, at least one,
 -- rising strictly, each within the bounds of its block and admitted by its filter.
 pub record IsFilled (cmp : List ℕ → List ℕ → Ordering) (file : List ℕ) (frame : Frame) (entries : List InternalEntry) : Type 0 where
   pub blocks : List (List Pair)

@@ -27,9 +27,9 @@ KeepsOthers old new name = (other : List ℕ) → other ≢ name → get new oth
 abbrev pub SyncsOnly : Synced → Synced → List ℕ → Type 0
 SyncsOnly old new name = (other : List ℕ) → other ≢ name → new other ≡ old other
 
--- A call that writes this file alone: once a store has returned something else than what was
--- written, that is so for good; the failures don't fall, each of them is a failed write, and the
--- lock is left alone. A stop at any moment leaves the others too.
+-- A call that writes this file alone. Once a store has returned something else than what was
+-- written, that is so for good. The failures don't fall, each of them is a failed write, and the
+-- lock is left alone. A process crash at any moment leaves the others too.
 pub record Writes (old new : Facts) (name : List ℕ) : Type 0 where
   pub faithful : IsTrue new.faithful → IsTrue old.faithful
   pub failures : old.failures ≤ new.failures
@@ -42,9 +42,9 @@ pub record Writes (old new : Facts) (name : List ℕ) : Type 0 where
 
 -- ---- refusals
 
--- Why a table isn't written on: out of memory, while no call of the store failed, since one failed,
--- or since a block of it would be longer than those that are read, which is so only where this fact
--- holds.
+-- Why a table isn't written on: out of memory, while no call of the store failed, or since one
+-- failed. Or a block of it would be longer than those that are read, which is so only where this
+-- fact holds.
 abbrev pub WriteRefuses : DbError → Facts → Facts → Type 0 → Type 0
 WriteRefuses OutOfMemory old new too_long = new.failures ≡ old.failures
 WriteRefuses Io old new too_long = old.failures < new.failures
@@ -67,7 +67,7 @@ NeedsLongEnds b = NeedsLongIndex b b.block ⊎ ((bytes : List ℕ) × IsWritten 
 
 -- ---- what is left
 
--- What stands behind the data blocks, which end at this offset: filter block, metaindex, index and
+-- What stands after the data blocks, which end at this offset: filter block, metaindex, index and
 -- footer.
 pub record AreEnds (offset : ℕ) (filter index bytes : List ℕ) : Type 0 where
   pub metaindex : List ℕ

@@ -125,10 +125,10 @@ impl<K: KeyOrder> TableBuilder<K> {
         self.block.is_above_last(key)
     }
 
-    /// Adds an entry, an internal key above the last one and its value, at the end. The first one
-    /// creates the file, and one that ends a data block appends it. Unsupported: a block would have
-    /// more than 2^30 bytes. After an `Err` the builder can't be used, and its file is part of a
-    /// table.
+    /// Adds an entry, an internal key above the last one and its value, at the end. Callers that
+    /// haven't compared the keys ask `accepts` first. The first entry creates or empties the file,
+    /// and one that ends a data block appends it. Unsupported: a block would have more than 2^30
+    /// bytes. After an `Err` the builder can't be used, and its file is part of a table.
     pub fn add<S: Store>(&mut self, store: &mut S, key: &[u8], value: &[u8]) -> Result<(), DbError>
         requires { MayFollow K.cmp self.old key.now }
         ensures name { self.new.name ≡ self.old.name }

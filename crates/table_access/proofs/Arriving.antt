@@ -31,7 +31,7 @@ module _ (inserts : List Entry) (key : List ℕ) (entries : List InternalEntry) 
       let number = (all-back (HasNumber inserts) front (one ∷ back) (subst AreNumbered is all)).0 in
       record { front = front; entry = one.entry; back = back; seen_is = is; place_is = refl; key_is = h one.entry number.0 }
 
-  -- on the first entry of those behind
+  -- on the first of the later entries
   pub placed_ahead : (node : Option ℕ) (seen front back : List Placed) → AreNumbered seen → length entries ≡ length seen → seen ≡ front ++ back → node ≡ first_of back → IfSome node (IsKeyAt inserts key)
       → IsPlacedSeen node key seen (within entries (length front))
   placed_ahead None seen front [] all long is e h = within_none entries (length front) (let s : length seen ≡ length front + 0 = ap length is ∙ length-append front [] in omega (arith, long, s))
@@ -78,7 +78,7 @@ module _ (cmp : Cmp) (contents : Contents) (old new : MemoryPlace) (at : Listed)
       subst (λ (s : ℕ). ListsSeen cmp new (up_to s (ordered cmp contents.inserts)) (record at { place = place })) (sym same)
       (record { entries = h.entries; rises = h.rises; place = placed })
 
-  -- a move on to the first that is seen of those behind
+  -- a move on to the first of the later ones that is seen
   pub moved_ahead : (result : Result (Unit {0}) DbError) (to : Option ℕ) → Split → to ≡ first_of (up_to old.sequence back) → OnOk result (new.node ≡ to) → OnOk result (IfSome to (IsKeyAt contents.inserts new.key))
       → OnErr result (new ≡ old) → new.sequence ≡ old.sequence → ListsMemory cmp old contents at
       → ListsMemory cmp new contents (after_move result (λ at. within at.entries (length (up_to old.sequence front))) at)
@@ -146,7 +146,7 @@ stands_on cmp cursor contents at node is h =
       key_is = s.key_is;
     }
 
--- the place behind, as so many entries in front
+-- the next place, as so many entries before it
 pub next_is : (cmp : Cmp) (cursor : MemoryPlace) (contents : Contents) (at : Listed) (node : ℕ) → (s : StandsOnEntry cmp cursor contents at node)
     → within at.entries (length (up_to cursor.sequence (s.front ++ record { node = node; entry = s.entry } ∷ []))) ≡ to_next at
 next_is cmp cursor contents at node s =

@@ -18,7 +18,7 @@ use Rattle.table_access.proofs.Searching.{IsSearching, inside_if, past_if, searc
 use Rattle.table.specs.Frame.{Frame, IsFrame}
 
 module _ (cmp : Cmp) (passed : List ℕ → Type 0) (old now : Seen) (placed : PlacedTable) (frame : Frame) (start index : ℕ) where
-  -- the blocks in front of this one are intact, and passed
+  -- the blocks before this one are intact, and passed
   pub record IsComing : Type 0 where
     pub reached : start ≤ index
     pub searching : IsSearching cmp passed old now placed frame start index

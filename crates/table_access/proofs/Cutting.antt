@@ -46,7 +46,7 @@ module _ (cmp : Cmp) (total : IsTotalOrder cmp) (source : Seen) (placed : Placed
   count : length (joined lists.groups) ≡ length at.entries
   count = pairs_length (joined lists.groups) at.entries lists.entries_are
 
-  -- a block that is none, where so many entries lie in front of the cut
+  -- a block that is none, where so many entries lie before the cut
   lies : (cut : Cut) (index m : ℕ) → index < length frame.places → IsTornIn cmp placed lists.has.file frame index → pairs_before lists.groups index ≤ m → m ≤ pairs_before lists.groups (suc index) → SplitsAt cmp at.entries cut m
       → TornTable cmp source placed frame cut
   lies cut index m inside torn low high splits file has =
@@ -87,7 +87,7 @@ module _ (cmp : Cmp) (total : IsTotalOrder cmp) (source : Seen) (placed : Placed
       let begin = before_zero lists.groups in
       lies Front stops.index 0 stops.inside stops.torn (omega (arith, none, begin)) (omega arith) (splits_first cmp at.entries)
 
-  -- behind the entry on which it stands
+  -- after the entry on which it stands
   pub torn_next : (n start : ℕ) → at.place ≡ Some n → within (joined lists.groups) (pairs_before lists.groups start) ≡ option_and_then (index_behind (joined lists.groups)) at.place
       → LacksOn cmp (λ (key : List ℕ). ⊥) source placed frame start → TornTable cmp source placed frame (next_cut at)
   torn_next n start place_is follows lacks =
@@ -119,7 +119,7 @@ module _ (cmp : Cmp) (total : IsTotalOrder cmp) (source : Seen) (placed : Placed
         ]
       ]
 
-  -- in front of the first entry that isn't below a key
+  -- before the first entry that isn't below a key
   pub torn_key : (target : List ℕ) (key : Key) (start : ℕ) → IsKey target key → IsFirstPlace cmp target frame.places start → LacksOn cmp (λ (other : List ℕ). IsBelowInternal cmp other target) source placed frame start
       → TornTable cmp source placed frame (Below key)
   torn_key target key start is_key first lacks =

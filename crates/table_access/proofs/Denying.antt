@@ -46,7 +46,7 @@ module _ (cmp : Cmp) (total : IsTotalOrder cmp) where
   abbrev IsAbove : List ℕ → List ℕ → Type 0
   IsAbove a b = IsBelowInternal cmp a b
 
-  -- each key of the index is below those behind it
+  -- each key of the index is below those after it
   pub BoundsRise : List Place → Type 0
   BoundsRise [] = Unit {0}
   BoundsRise (place ∷ places) = AllByRecursion (λ (later : Place). IsBelowInternal cmp place.key later.key) places × BoundsRise places
@@ -138,7 +138,7 @@ module _ (cmp : Cmp) (total : IsTotalOrder cmp) where
   all_above b (p ∷ places) (g ∷ groups) bounds keys first =
       all_both (λ (pair : Pair). IsBelowInternal cmp b pair.key) g (joined groups) first (all_above b places groups bounds.1 keys.1 (next_above b p.key g groups keys.0 bounds.0))
 
-  -- the pairs behind a block are above its bound
+  -- the pairs after a block are above its bound
   pub above_bound : (places : List Place) (groups : List (List Pair)) (i : ℕ) (place : Place) → AreBounds cmp places groups → BoundsRise places → slice_get places i ≡ Some place
       → (k : ℕ) (pair : Pair) → pairs_before groups (suc i) ≤ k → slice_get (joined groups) k ≡ Some pair → IsBelowInternal cmp place.key pair.key
   unfolding BoundsRise pairs_before

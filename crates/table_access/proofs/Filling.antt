@@ -18,7 +18,7 @@ use Rattle.table.specs.Frame.{Frame, IsFrame}
 use Rattle.table.specs.Refusals.{IsFirstPlace}
 use Rattle.table.specs.Table.{AreAdmitted, AreBounds, ArePairs, IsAtMost, IsBound, IsFilled}
 
--- what the groups of a table have, and so have those of each list that a table may be
+-- what the groups of a table have, and those of each list that a table may be
 pub record IsFilling (cmp : Cmp) (frame : Frame) (groups : List (List Pair)) (entries : List InternalEntry) : Type 0 where
   pub same_length : length frame.places ≡ length groups
   pub bounds : AreBounds cmp frame.places groups
@@ -38,7 +38,7 @@ filling_of cmp file frame entries filled = record {
 pub filling_may : (cmp : Cmp) (placed : PlacedTable) (file : List ℕ) (frame : Frame) (entries : List InternalEntry) → (may : MayHave cmp placed file frame entries) → IsFilling cmp frame may.groups entries
 filling_may cmp placed file frame entries may = record { same_length = may.same_length; bounds = may.bounds; entries_are = may.entries_are; rises = may.rises; admitted = may.admitted }
 
--- ---- the blocks in front of the first that can have a key
+-- ---- the blocks before the first that can have a key
 
 bounded : (cmp : Cmp) (bound : List ℕ) (pairs : List Pair) (groups : List (List Pair)) → IsBound cmp bound pairs groups → AllByRecursion (λ (pair : Pair). IsAtMost cmp pair.key bound) pairs
 bounded cmp bound pairs [] h = h
@@ -69,7 +69,7 @@ module _ (cmp : Cmp) (total : IsTotalOrder cmp) (target : List ℕ) where
         front_under places groups n bounds.1 (λ i place l e. h (suc i) place (omega (arith, l)) e) (k - length g) pair (omega (arith, less, ge)) (sym (behind g (joined groups) (k - length g) k shift) ∙ at)
   ]
 
-  -- so are the bounds of all in front of the first that isn't
+  -- so are the bounds of all before the first that isn't
   places_under : (places : List Place) (start : ℕ) → BoundsRise cmp total places → IsFirstPlace cmp target places start → (i : ℕ) (place : Place) → i < start → slice_get places i ≡ Some place → IsBelowInternal cmp place.key target
   places_under places start rise first i place less at =
       let inside = first.inside in

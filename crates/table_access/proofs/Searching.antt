@@ -39,7 +39,7 @@ pub within_no : (pairs : List Pair) (n : ℕ) → length pairs ≤ n → within_
 within_no = within_none
 
 module _ (cmp : Cmp) (passed : List ℕ → Type 0) (old now : Seen) (placed : PlacedTable) (frame : Frame) (start index : ℕ) where
-  -- the blocks in front of this one are passed
+  -- the blocks before this one are passed
   pub record IsSearching : Type 0 where
     pub carries : Carries cmp (Only placed.table.number) old now
     pub still : now.facts.failures ≡ old.facts.failures

@@ -70,7 +70,7 @@ module _ (cmp : Cmp) (total : IsTotalOrder cmp) (exact : IsAntisymmetric cmp) (k
   before_below : (entry : Entry) → IsBefore entry → Below entry
   before_below entry h = from_order (cmp entry.key key.user) entry h
 
-  -- what comes behind an entry that isn't below the key isn't either
+  -- what comes after an entry that isn't below the key isn't either
   later_not_below : (entry later : Entry) → NotBelow entry → key_cmp cmp (internal_key_of entry) (internal_key_of later) ≡ Less → NotBelow later
   later_not_below entry later h less = false_from_ne_true (is_below cmp key (internal_entry_of later))
       (λ t.
@@ -111,7 +111,7 @@ module _ (cmp : Cmp) (total : IsTotalOrder cmp) (exact : IsAntisymmetric cmp) (k
       ∙ not_nat_less (tag_of key) (tag_of (internal_key_of later)) (omega (arith, less, put_tag))
   behind_order Greater entry later e put h = let bad : Greater ≡ Less = h in absurd cc
 
-  -- what comes behind that put isn't below the key
+  -- what comes after that put isn't below the key
   behind_put : (entry later : Entry) → IsItsPut entry → key_cmp cmp (internal_key_of entry) (internal_key_of later) ≡ Less → NotBelow later
   behind_put entry later put h = behind_order (cmp entry.key later.key) entry later refl put h
 
@@ -153,7 +153,7 @@ module _ (cmp : Cmp) (total : IsTotalOrder cmp) (exact : IsAntisymmetric cmp) (k
       );
     }
 
-    -- it is, and all behind it aren't
+    -- it is, and all after it aren't
     pub from_next : (node : ℕ) (next : Option ℕ) → (h : IsSought cmp key.user key.sequence placed (Some node)) → Below h.1 → next ≡ first_of h.2 → IsFrom cmp key placed next
     from_next node next h below next_is = record {
       front = h.0 ++ record { node = node; entry = h.1 } ∷ [];

@@ -44,7 +44,7 @@ module _ (sequence : ℕ) where
   all_up_to P (one ∷ later) h =
       cond_both (nat_le one.entry.sequence sequence) (one ∷ up_to sequence later) (up_to sequence later) (AllByRecursion P) (λ _. (h.0, all_up_to P later h.1)) (λ _. all_up_to P later h.1)
 
-  -- an entry that is seen, with those in front of it and behind it, among all
+  -- an entry that is seen, with those before it and after it, among all
   pub record IsFoundSeen (placed front : List Placed) (one : Placed) (back : List Placed) : Type 0 where
     pub before : List Placed
     pub behind : List Placed

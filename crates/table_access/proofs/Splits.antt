@@ -1,4 +1,4 @@
--- How many entries of a list lie in front of a cut.
+-- How many entries of a list lie before a cut.
 use Rattle.std.proofs.Common.{◌≡◌, ◌<◌, ◌≤◌, ℕ, zero, suc, Bool, true, false, not, cond, List, [], ◌∷◌, Some, length, refl, sym, ap, ◌∙◌, subst, arith, inl, inr}
 use Rattle.std.specs.Cmp.{IsTotalOrder}
 use Rattle.std.specs.List.{slice_get}
@@ -13,7 +13,7 @@ use Rattle.cursor.proofs.Unions.{no_less, not_less_itself}
 use Rattle.ikey.specs.Entries.{InternalEntry}
 use Rattle.ikey.specs.Keys.{Key, key_cmp}
 
--- so many lie in front of it
+-- so many lie before it
 abbrev pub SplitsAt : Cmp → List InternalEntry → Cut → ℕ → Type 0
 SplitsAt cmp entries cut count = (p : ℕ) (entry : InternalEntry) → slice_get entries p ≡ Some entry
     → (p < count → is_in_front cmp cut entry.key ≡ true) × (count ≤ p → is_in_front cmp cut entry.key ≡ false)

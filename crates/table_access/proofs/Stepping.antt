@@ -14,7 +14,7 @@ use Rattle.table_access.proofs.Searching.{within_yes, within_no}
 some_or_not : (x : Bool) → x ≡ true → x ≡ false → ⊥
 some_or_not x e f = let bad : true ≡ false = sym e ∙ f in cc
 
--- whether a pair stands behind
+-- whether there is a next pair
 behind_if : (pairs : List Pair) (place : Option ℕ) (j : ℕ) → place ≡ Some j → is_some (option_and_then (block.index_behind pairs) place) ≡ true → suc j < length pairs
 behind_if pairs place j e some = elim (cases_lt (suc j) (length pairs)) [
   | inl less ↦ less

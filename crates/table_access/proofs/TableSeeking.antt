@@ -29,7 +29,7 @@ all_at P (x ∷ pairs) zero pair h e = let s : x ≡ pair = let t : Some x ≡ S
 all_at P (x ∷ pairs) (suc n) pair h e = all_at P pairs n pair h.1 e
 
 module _ (cmp : Cmp) (total : IsTotalOrder cmp) (target file : List ℕ) (frame : Frame) (start : ℕ) (groups : List (List Pair)) (is : IsFrame cmp file frame) (first : IsFirstPlace cmp target frame.places start) (bounds : AreBounds cmp frame.places groups) where
-  -- the pairs of the blocks in front of the first that can have the target
+  -- the pairs of the blocks before the first that can have the target
   pub below_front : (k : ℕ) (pair : Pair) → k < pairs_before groups start → slice_get (joined groups) k ≡ Some pair → IsBelowInternal cmp pair.key target
   below_front = bounds_front cmp total target file frame groups start is first bounds
 

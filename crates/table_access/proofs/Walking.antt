@@ -117,7 +117,7 @@ module _ (cmp : Cmp) (inserts : List Entry) (sequence : ℕ) (start : Option ℕ
         | inr x ↦ let long : length r.0 ≡ length x.0 + 1 = ap length x.2 ∙ length-append x.0 (x.1 ∷ []) in absurd (omega (arith, long, r.5, full))
       ]
 
-  -- the last entry of those in front, and what is in front of it
+  -- the last entry of those in front, and what is before it
   last_at : (before behind : List Placed) (place : ℕ) (entry : Entry) → ordered cmp inserts ≡ before ++ behind → Some place ≡ last_of before → entry_at inserts place ≡ Some entry
       → (front : List Placed) × (before ≡ front ++ record { node = place; entry = entry } ∷ []) × (ordered cmp inserts ≡ front ++ record { node = place; entry = entry } ∷ behind)
   last_at before behind place entry is at kept = elim (last_cases before) [

@@ -54,7 +54,7 @@ module _ (cmp : Cmp) (placed : PlacedTable) (file : List ℕ) (frame : Frame) (e
         },
       )
 
--- what a table has behind a frame
+-- what a table has that has this frame
 pub filled_of : (cmp : Cmp) (file : List ℕ) (frame : Frame) (entries : List InternalEntry) → IsFrame cmp file frame → IsTable cmp file entries → IsFilled cmp file frame entries
 filled_of cmp file frame entries is table = subst (λ (f : Frame). IsFilled cmp file f entries) (one_frame cmp file table.0 frame table.1 is) table.2
 

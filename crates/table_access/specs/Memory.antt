@@ -69,7 +69,7 @@ IsSeen inserts sequence node = IsPlace inserts node × ((entry : Entry) → entr
 abbrev pub IsKeyAt : List Entry → List ℕ → ℕ → Type 0
 IsKeyAt inserts key node = (entry : Entry) → entry_at inserts node ≡ Some entry → IsKey key (internal_key_of entry)
 
--- in order the entries below the key stand in front of this node, and all others from it on
+-- in order the entries below the key stand before this node, and all others from it on
 pub record IsFrom (cmp : Cmp) (key : Key) (placed : List Placed) (node : Option ℕ) : Type 0 where
   pub front : List Placed
   pub back : List Placed

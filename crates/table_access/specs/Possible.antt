@@ -12,8 +12,8 @@ use Rattle.table_access.specs.TablePlaces.{joined}
 use Rattle.table.specs.Frame.{Frame, IsFrame}
 use Rattle.table.specs.Table.{AreAdmitted, AreBounds, ArePairs}
 
--- Behind this frame the table may have these entries: the pairs of its data blocks joined, of each
--- block that is one its own, and of another one any; they rise strictly, each within the bounds of
+-- With this frame the table may have these entries: the pairs of its data blocks joined, of each
+-- block that is one its own, and of another one any. They rise strictly, each within the bounds of
 -- its block and admitted by its filter.
 pub record MayHave (cmp : Cmp) (placed : PlacedTable) (file : List ℕ) (frame : Frame) (entries : List InternalEntry) : Type 0 where
   pub groups : List (List Pair)

@@ -20,7 +20,7 @@ use Rattle.table.specs.Table.{AreBounds, ArePairs}
 abbrev pub joined : List (List Pair) → List Pair
 joined groups = flat_map (λ (pairs : List Pair). pairs) groups
 
--- how many pairs lie in the blocks in front of this one
+-- how many pairs lie in the blocks before this one
 unfoldable pub pairs_before : List (List Pair) → ℕ → ℕ
 pairs_before [] index = zero
 pairs_before (pairs ∷ groups) zero = zero
@@ -80,8 +80,7 @@ pub record StopsAt (passed : List ℕ → Type 0) (pairs : List Pair) (from inde
 
 -- ---- steps within a block
 
--- It has gone on to the pair behind; or it stays, and the pair behind is the first from this block
--- on.
+-- It has gone on to the next pair; or it stays, and the next pair is the first from this block on.
 abbrev pub StepsOn : List (List Pair) → Option (InBlock Placed) → Option ℕ → Option ℕ → Type 0
 StepsOn groups new place None =
     IsTrue (is_some (option_and_then (index_behind (joined groups)) place)) × IsPlacedIn groups new (option_and_then (index_behind (joined groups)) place)
@@ -89,7 +88,7 @@ StepsOn groups new place (Some start) =
     IsPlacedIn groups new place × (start ≤ length groups) × (within (joined groups) (pairs_before groups start) ≡ option_and_then (index_behind (joined groups)) place)
 
 -- It has gone back to the pair in front; or it stays, and the pair in front is the last of the
--- blocks in front of this one.
+-- blocks before this one.
 abbrev pub StepsBack : List (List Pair) → Option (InBlock Placed) → Option ℕ → Option ℕ → Type 0
 StepsBack groups new place None = IsTrue (is_some (option_and_then index_before place)) × IsPlacedIn groups new (option_and_then index_before place)
 StepsBack groups new place (Some end) =

@@ -52,7 +52,8 @@ pub record FirstSays (cmp : Cmp) (passed : List ℕ → Type 0) (placed : Placed
   pub says : SaysOfEntry entry key value
 
 -- What the blocks tell that a search for a user key up to a sequence number comes to, each of which
--- is one: what the first entry that isn't below its first key put; or nothing, where there is none.
+-- is one. It is what the first entry put that isn't below its first key; or nothing, if there is
+-- none.
 pub record Tells (cmp : Cmp) (placed : PlacedTable) (file : List ℕ) (frame : Frame) (key : List ℕ) (sequence : ℕ) (value : Option (Option (List ℕ))) : Type 0 where
   pub target : List ℕ
   pub start : ℕ
@@ -77,8 +78,8 @@ IfCorrupt error P = Unit {0}
 abbrev pub IsTornIn : Cmp → PlacedTable → List ℕ → Frame → ℕ → Type 0
 IsTornIn cmp placed file frame index = (pairs : List Pair) → IsIntactIn cmp placed file frame.places index pairs → ⊥
 
--- From one block on a search comes to one of the table's that is none: each in front of it is one,
--- and passed.
+-- From one block on a search comes to one of the table's that is none: each before it is one, and
+-- passed.
 pub record StopsTorn (cmp : Cmp) (passed : List ℕ → Type 0) (placed : PlacedTable) (file : List ℕ) (frame : Frame) (start : ℕ) : Type 0 where
   pub index : ℕ
   pub reached : start ≤ index
@@ -86,7 +87,7 @@ pub record StopsTorn (cmp : Cmp) (passed : List ℕ → Type 0) (placed : Placed
   pub came : CameTo cmp passed placed file frame start index
   pub torn : IsTornIn cmp placed file frame index
 
--- So does the search for a user key up to a sequence number.
+-- The same for the search for a user key up to a sequence number.
 pub record TornOfKey (cmp : Cmp) (placed : PlacedTable) (key : List ℕ) (sequence : ℕ) (file : List ℕ) : Type 0 where
   pub frame : Frame
   pub frame_is : IsFrame cmp file frame

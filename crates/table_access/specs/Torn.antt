@@ -10,8 +10,8 @@ use Rattle.table_access.specs.Tables.{Seen, HasSoundTable, IsOpenFrame}
 use Rattle.table_access.specs.Telling.{IsPassed, IsTornIn, StopsTorn}
 use Rattle.table.specs.Frame.{Frame}
 
--- A block of this frame that lies at a cut is none: each key of an intact block in front of it lies
--- in front of the cut, and none of one behind it does.
+-- A block of this frame that lies at a cut is none. Each key of an intact block before it lies
+-- before the cut, and none of one after it does.
 pub record HasTorn (cmp : Cmp) (placed : PlacedTable) (file : List ℕ) (frame : Frame) (cut : Cut) : Type 0 where
   pub index : ℕ
   pub inside : index < length frame.places
@@ -27,8 +27,8 @@ TornTable cmp source placed frame cut = (file : List ℕ) → HasSoundTable cmp 
 
 -- ---- why a search over an open table is refused
 
--- In front of one block a search back comes to one that is none: each behind it, up to that one, is
--- one, without a pair.
+-- Before one block a search back comes to one that is none: each after it, up to that one, is one,
+-- without a pair.
 pub record StopsTornBack (cmp : Cmp) (placed : PlacedTable) (file : List ℕ) (frame : Frame) (end : ℕ) : Type 0 where
   pub index : ℕ
   pub inside : index < end
@@ -45,7 +45,7 @@ abbrev pub LacksOn : Cmp → (List ℕ → Type 0) → Seen → PlacedTable → 
 LacksOn cmp passed source placed frame start =
     (file : List ℕ) → HasSoundTable cmp source placed.table.number file → IsOpenFrame cmp file frame → StopsTorn cmp passed placed file frame start
 
--- one to which a search back comes in front of this index is
+-- one to which a search back comes before this index is
 abbrev pub LacksBack : Cmp → Seen → PlacedTable → Frame → ℕ → Type 0
 LacksBack cmp source placed frame end =
     (file : List ℕ) → HasSoundTable cmp source placed.table.number file → IsOpenFrame cmp file frame → StopsTornBack cmp placed file frame end

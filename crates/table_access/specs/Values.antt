@@ -21,7 +21,7 @@ IsLookUp entries sequence key None = IsUnseen entries sequence key
 IsLookUp entries sequence key (Some value) =
     (entry : Entry) × IsNewest entries sequence entry × (entry.key ≡ key) × (value ≡ entry.value)
 
--- so it is of the entries of a table
+-- the same holds of the entries of a table
 abbrev pub HasValue : Cmp → List ℕ → List ℕ → ℕ → Option (Option (List ℕ)) → Type 0
 HasValue cmp file key sequence value = (entries : List InternalEntry) → IsTable cmp file entries → IsLookUp (map entry_of entries) sequence key value
 

@@ -14,7 +14,7 @@ use Rattle.version_get.specs.Gets.{TableTears, TableTells, TablesTear, TellFirst
 use Rattle.version_get.proofs.Getting.{IsSought, begins}
 use Rattle.versions.specs.Searches.{IsSearchedAt, IsSearchedNext}
 
--- So far it has read the tables in front of this place, which tell nothing of the key.
+-- So far it has read the tables before this place, which tell nothing of the key.
 pub record IsTurned (order : Order) (old now : Seen) (tables : List PlacedTable) (key : List ℕ) (sequence : ℕ) (target : List ℕ) (from : ℕ) : Type 0 where
   pub sought : IsSought order old now tables
   pub told : TellNothing order.cmp old now tables key sequence target from
@@ -31,7 +31,7 @@ module _ (cmp : Cmp) (old now : Seen) (tables : List PlacedTable) (key : List �
   ]
 
   module _ {numbers others : ℕ → Type 0} (new : Seen) (place : ℕ) (placed : PlacedTable) (next : IsSearchedNext cmp target tables from place placed) (first : Carries cmp numbers old now) (second : Carries cmp others now new) where
-    -- the places in front of the table that is searched next
+    -- the places before the table that is searched next
     pub in_front : TellNothing cmp old new tables key sequence target place
     in_front at less = elim (cases_lt at from) [
       | inl before ↦ elim (told at before) [

@@ -79,7 +79,7 @@ module _ (cmp : Cmp) (old new : Seen) (tables : List PlacedTable) (key : List �
       ((placed : PlacedTable) → IsSearchedAt cmp target tables place placed → ⊥)
       ⊎ ((placed : PlacedTable) × IsSearchedAt cmp target tables place placed × TableTells cmp old new key sequence placed None)
 
-  -- so it is at each place in front of this one
+  -- the same holds at each place before this one
   abbrev pub TellNothing : ℕ → Type 0
   TellNothing end = (place : ℕ) → place < end → TellsNothingAt place
 
@@ -98,7 +98,7 @@ abbrev pub TableTears : Cmp → Seen → Seen → List ℕ → ℕ → PlacedTab
 TableTears cmp old new key sequence placed =
     (placed.table.number ≡ 0) ⊎ SaysOf cmp old new placed.table.number (λ file. IsFrameDamaged cmp file ⊎ TornOfKey cmp placed key sequence file)
 
--- so it is of a table that is searched, and each in front of it tells nothing
+-- the same holds of a table that is searched, and each before it tells nothing
 abbrev pub TablesTear : Cmp → Seen → Seen → List PlacedTable → List ℕ → ℕ → Type 0
 TablesTear cmp old new tables key sequence =
     (target : List ℕ) × IsFirstKey key sequence target × (place : ℕ) × (placed : PlacedTable) × IsSearchedAt cmp target tables place placed

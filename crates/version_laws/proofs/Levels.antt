@@ -61,11 +61,11 @@ in_middle : (before : List TableContent) (c : TableContent) (behind : List Table
 in_middle [] c behind = inl refl
 in_middle (t ∷ before) c behind = inr (in_middle before c behind)
 
--- the table between those in front and those behind is one of all
+-- the table between those in front and those after is one of all
 in_parted : (level : ℕ) (contents before : List TableContent) (c : TableContent) (behind : List TableContent) → contents_at level contents ≡ before ++ c ∷ behind → InTables contents c
 in_parted level contents before c behind e = in_all level contents c (subst (λ (ts : List TableContent). InTables ts c) (sym e) (in_middle before c behind))
 
--- the table at an index, those in front of it, and those behind
+-- the table at an index, those before it, and those after it
 split_at : (P : PlacedTable → Type 0) (own : List TableContent) (i : ℕ) → i < length (placed_of own) → AllWithin P (placed_of own) 0 i
     → (before : List TableContent) × (c : TableContent) × (behind : List TableContent) × (own ≡ before ++ c ∷ behind) × ((d : PlacedTable) → get_or (placed_of own) i d ≡ c.placed) × ((d : List Entry) → get_or (lists_of own) i d ≡ c.entries) × AllByRecursion (λ (t : TableContent). P t.placed) before
 split_at P [] i lt within = absurd (omega (arith, lt))

@@ -14,7 +14,7 @@ use Rattle.recover.proofs.Memberships.{up_to_greatest}
 use Rattle.recover.proofs.Replayed.{rise_split}
 use Rattle.version_laws.specs.Laws.{MemoryLaw}
 
--- what rises behind is newer
+-- what rises after is newer
 rising_newer : (front back : List Entry) → RiseAbove 0 (front ++ back) → IsNewerThan back front
 rising_newer front back rise a b i j key =
     let more = above (max 0 (greatest front)) back a (rise_split 0 front back rise).1 i in

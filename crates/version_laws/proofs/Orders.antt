@@ -21,7 +21,7 @@ use Rattle.version_laws.proofs.Sought.{less_parts, kind_at_most}
 abbrev pub placed_of : List TableContent → List PlacedTable
 placed_of contents = map (λ (content : TableContent). content.placed) contents
 
--- ---- each with all behind it
+-- ---- each with all after it
 
 abbrev pub ForTwo : {X : Type 0} → (X → X → Type 0) → List X → Type 0
 ForTwo R [] = Unit {0}
@@ -100,7 +100,7 @@ not_itself order a b o same less =
     let t : Equal ≡ Less = sym (tied_itself o b) ∙ subst (λ (k : List ℕ). order.cmp k b ≡ Less) same less in
     cc
 
--- of two entries the one whose internal key is below the other's doesn't come behind it
+-- of two entries the one whose internal key is below the other's doesn't come after it
 not_behind : (order : Order) (x y : Entry) → IsTotalOrder order.cmp → IsAntisymmetric order.cmp → key_cmp order.cmp (internal_key_of x) (internal_key_of y) ≡ Less → ComesBefore order y x → ⊥
 not_behind order x y o exact less behind =
     elim (less_parts (order.cmp x.key y.key) (tag_of (internal_key_of y)) (tag_of (internal_key_of x)) less) [

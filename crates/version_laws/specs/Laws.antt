@@ -49,7 +49,7 @@ PassedLaw = (order : Order) (tables : List PlacedTable) (contents : List TableCo
 
 -- ---- a search that goes from place to place, as `Version::next_searched` leads
 
--- the places in front of this one have nothing that is seen
+-- the places before this one have nothing that is seen
 abbrev pub IsSearchedUpTo : List TableContent → List ℕ → ℕ → ℕ → Type 0
 IsSearchedUpTo contents user sequence place = (i : ℕ) → i < place → IsUnseen (get_or (table_sources contents) i []) sequence user
 
@@ -62,7 +62,7 @@ pub record IsStep (order : Order) (tables : List PlacedTable) (contents : List T
   pub so_far : IsSearchedUpTo contents user sequence from
   pub next : IsSearchedNext order.cmp key tables from place placed
 
--- Where the key isn't seen in the table, the search goes on behind its place.
+-- Where the key isn't seen in the table, the search goes on after its place.
 abbrev pub StepLaw : Type 0
 StepLaw = (order : Order) (tables : List PlacedTable) (contents : List TableContent) (user : List ℕ) (sequence : ℕ) (key : List ℕ) (from place : ℕ) (placed : PlacedTable)
     → IsStep order tables contents user sequence key from place placed → TableAnswers contents placed sequence user None → IsSearchedUpTo contents user sequence (place + 1)
@@ -95,7 +95,7 @@ VersionLaw = (order : Order) (files : Files) (d : Directory) (tables : List Plac
     → IsConsistent order files d → ListsSameTables d.layout.tables.items tables → AreInOrder order.cmp tables
     → (contents : List TableContent) × HasVersion order files tables contents × SameEntries (joined (table_sources contents)) (tabled d.tables)
 
--- So it is with a version of some of them alone, as the inputs of a compaction.
+-- The same holds for a version of some of them alone, as the inputs of a compaction.
 abbrev pub PartLaw : Type 0
 PartLaw = (order : Order) (files : Files) (d : Directory) (chosen rest : List TableContent) (tables : List PlacedTable) → IsTotalOrder order.cmp → IsAntisymmetric order.cmp
     → IsConsistent order files d → AreParted d.tables chosen rest → IsPermutation tables (map (λ (content : TableContent). content.placed) chosen) → AreInOrder order.cmp tables

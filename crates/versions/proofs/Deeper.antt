@@ -1,4 +1,4 @@
--- Tables that are sorted by level, split in front of one, and what is searched of the deeper ones.
+-- Tables that are sorted by level, split before one, and what is searched of the deeper ones.
 use Rattle.std.proofs.Common.{◌≡◌, ◌≢◌, ◌==◌, ℕ, zero, suc, ◌+◌, ◌<◌, ◌≤◌, Bool, true, false, cond, nat_lt, nat_le, IsTrue, Some, None, List, [], ◌∷◌, length, get_or, filter, inl, inr, refl, sym, ap, ◌∙◌, subst, arith, All, AllPairs}
 use Rattle.std.proofs.lemmas.Bool.{cases_eq, cond_both, eq-eqb, eqb-true, ne_eqb, false≢true, lt-ltb, le-ltb, ltb-true, le-leb, lt-leb, leb-true}
 use Rattle.std.proofs.lemmas.List.Elements.{All-filter, filter_agree, filter_passes}

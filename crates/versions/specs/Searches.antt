@@ -26,9 +26,9 @@ IsTableFor cmp key tables placed =
 abbrev pub search_length : List PlacedTable → ℕ
 search_length tables = length (tables_at 0 tables) + 6
 
--- The table is searched for the key, an internal one, at this place, since it covers its user key:
--- first those of level 0, from the highest number down, and then of each deeper level the first
--- that doesn't end below the key.
+-- The table is searched for the key, an internal one, at this place, since it covers its user key.
+-- First come those of level 0, from the highest number down, and then of each deeper level the
+-- first that doesn't end below the key.
 abbrev pub IsSearchedAt : (List ℕ → List ℕ → Ordering) → List ℕ → List PlacedTable → ℕ → PlacedTable → Type 0
 IsSearchedAt cmp key tables place placed =
     (((place < length (tables_at 0 tables)) × HoldsAt (λ other. other ≡ placed) (tables_at 0 tables) (length (tables_at 0 tables) - 1 - place))
@@ -59,8 +59,8 @@ abbrev pub EndsAtUser : (List ℕ → List ℕ → Ordering) → List ℕ → Pl
 EndsAtUser cmp key placed other =
     IsBelowInternal cmp placed.table.largest other.table.smallest × (EndsBelow cmp key placed → ⊥) × IsTrue (is_up_to cmp (last_user placed) (user_of key))
 
--- Each table that covers the user key and doesn't end below the key is searched, or in its stead
--- one of its level that comes before it and ends with the user key: that one has the first entry
+-- Each table that covers the user key and doesn't end below the key is searched, or instead of it
+-- one of its level that comes before it and ends with the user key. That one has the first entry
 -- from the key on.
 abbrev pub SearchesReach : Type 0
 SearchesReach = (cmp : List ℕ → List ℕ → Ordering) → IsTotalOrder cmp → (key : List ℕ) (k : Key) (tables : List PlacedTable) → IsKey key k → AreInOrder cmp tables

@@ -21,9 +21,9 @@ use Rattle.table_access.specs.Possible.{MayBeTable}
 use Rattle.table_access.specs.Tables.{Seen, IsSound}
 use Rattle.db_cursor.specs.Inputs.{IsMergeIntact, IsMergeLimited, IsMergeTorn, KeepsMerge, ReadsNoMemory}
 
--- It goes over entries that these tables may have, as far as their blocks tell, which are those of
--- the places where they are searched, in the order of their internal keys, and has no place. It
--- passes a limit, or comes to a torn block, only where the file of one of the tables does.
+-- It goes over entries that these tables may have, as far as their blocks tell, and has no place.
+-- These are the entries of the places where the tables are searched, in the order of their internal
+-- keys. It passes a limit, or comes to a torn block, only where the file of one of the tables does.
 pub record MayBeMergeOf {K : Type 0} {g : _} (cmp : Cmp) (tables : List PlacedTable) (contents : List TableContent) (whole : Whole) (merge : Merge K (SourceCursor K g)) : Type 0 where
   pub entries : List InternalEntry
   pub same : SameEntries (map entry_of entries) (tabled contents)
@@ -33,8 +33,8 @@ pub record MayBeMergeOf {K : Type 0} {g : _} (cmp : Cmp) (tables : List PlacedTa
   pub limits : IsMergeLimited cmp merge whole → IsOnePastLimit cmp tables whole
   pub torn : (cut : Cut) → IsMergeTorn cmp merge whole cut → IsOneTornFile cmp tables whole cut
 
--- So it is with a new merge over a version of these tables, whichever source has files that may be
--- theirs, and whichever contents they may have.
+-- The same holds for a new merge over a version of these tables, whichever source has files that
+-- may be theirs, and whichever contents they may have.
 abbrev pub MayBeginMerge : {K : Type 0} {g : _} → Order → List PlacedTable → Merge K (SourceCursor K g) → Type 0
 MayBeginMerge order tables merge = (whole : Whole) (contents : List TableContent) → IsSound order.cmp whole.seen
     → MayHaveVersion (MayBeTable order.cmp) order whole.seen.facts.files tables contents → MayBeMergeOf order.cmp tables contents whole merge
@@ -51,7 +51,7 @@ pub record IsMergeOf {K : Type 0} {g : _} (cmp : Cmp) (tables : List PlacedTable
   pub limits : IsMergeLimited cmp merge whole → IsOnePastLimit cmp tables whole
   pub intact : IsMergeIntact cmp merge whole
 
--- So it is with a new merge over a version of these tables, whichever source has their files.
+-- The same holds for a new merge over a version of these tables, whichever source has their files.
 abbrev pub BeginsMerge : {K : Type 0} {g : _} → Order → List PlacedTable → Merge K (SourceCursor K g) → Type 0
 BeginsMerge order tables merge = (whole : Whole) (contents : List TableContent) → IsSound order.cmp whole.seen → HasVersion order whole.seen.facts.files tables contents
     → IsMergeOf order.cmp tables contents whole merge

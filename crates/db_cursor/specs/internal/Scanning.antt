@@ -67,7 +67,7 @@ TakesBack {K} {g} cmp stood old new = (first : Scan K g) (before after : Whole) 
 abbrev pub ScanIsKept : {K : Type 0} {g : _} → Cmp → Scan K g → Type 0
 ScanIsKept cmp scan = (old new : Whole) (at : Walked) → KeepsScan cmp scan old new → IsScan cmp scan old at → IsScan cmp scan new at
 
--- And so does each that its tables may have.
+-- The same for each list that its tables may have.
 abbrev pub MayBeIsKept : {K : Type 0} {g : _} → Cmp → Scan K g → Type 0
 MayBeIsKept cmp scan = (old new : Whole) (at : Walked) → KeepsScan cmp scan old new → MayBeScan cmp scan old at → MayBeScan cmp scan new at
 

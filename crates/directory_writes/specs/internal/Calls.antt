@@ -33,8 +33,8 @@ pub record Creates (old new : Facts) (name : List ℕ) (result : Result (Unit {0
   pub memory : IsTrue new.faithful → result ≡ Err OutOfMemory → (new.files ≡ old.files) × (new.synced ≡ old.synced)
   pub synced : IsTrue new.faithful → SyncsOnly old.synced new.synced name
 
--- The bytes stand behind the file, and the device keeps all of it; or, where the device fails,
--- nothing of them or a beginning is there.
+-- The bytes stand after the file, and the disk keeps all of it; or, if the store fails, nothing of
+-- them or a beginning is there.
 pub record AppendsSynced (old new : Facts) (name bytes : List ℕ) (result : Result (Unit {0}) DbError) : Type 0 where
   pub ok : IsTrue new.faithful → OnOk result (Appends old.files new.files name bytes × (new.synced name ≡ get new.files name))
   pub io : IsTrue new.faithful → result ≡ Err Io → AppendsBeginning old.files new.files name bytes

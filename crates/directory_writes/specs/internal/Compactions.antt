@@ -82,7 +82,7 @@ pub record IsAfterJob (next_file last : ℕ) (edit : List Field) (old new : Layo
   pub compact_pointers : new.compact_pointers.items ≡ pointers_after edit 0 old.compact_pointers.items
   pub tables : after_edit edit old.tables.items ≡ Some new.tables.items
 
--- Behind the edits of a layout the edit of a job leaves that, and nothing else.
+-- After the edits of a layout the edit of a job leaves that, and nothing else.
 abbrev pub JobFoldsLaw : Type 0
 JobFoldsLaw = (name : List ℕ) (edits : List (List Field)) (level next last : ℕ) (planned : List PlacedTable) (pointer : Option (List ℕ)) (tables : List TableFile) (edit : List Field) (old new : Layout)
     → IsLayout name edits old → IsEditOf level planned pointer tables next last edit
@@ -91,7 +91,7 @@ JobFoldsLaw = (name : List ℕ) (edits : List (List Field)) (level next last : �
 -- ---- the whole
 
 -- A job of a plan for this directory has ended over files that are still this directory, and
--- answered this edit: its inputs may be replaced, all of their entries came, no output has the
+-- answered this edit. Its inputs may be replaced, all of their entries came, no output has the
 -- number of a table, and the edit's sequence number is the last one used.
 pub record IsJobDone (order : Order) (deep : List ℕ → Bool) (plan : JobPlan) (last : List ℕ) (c : Choosing) (facts : Facts) (number : ℕ) (came : List InternalEntry) (edit : List Field) (d : Directory) (inputs rest : List TableContent) : Type 0 where
   pub consistent : IsConsistent order facts.files d
@@ -106,7 +106,7 @@ pub record IsJobDone (order : Order) (deep : List ℕ → Bool) (plan : JobPlan)
   pub unused : AllByRecursion (IsUnused d.layout.tables.items) edit
 
 -- Its outputs are there with what must be kept of what came, in their order, and stand in these
--- tables in place of the inputs.
+-- tables instead of the inputs.
 pub record IsJobPut (order : Order) (deep : List ℕ → Bool) (level : ℕ) (snapshots : List ℕ) (files : Files) (came : List InternalEntry) (edit : List Field) (d : Directory) (inputs rest outputs contents : List TableContent) : Type 0 where
   pub after : after_edit edit d.layout.tables.items ≡ Some (placed_in contents)
   pub compaction : (next : Layout) → IsLayout order.name (d.edits ++ edit ∷ []) next → IsCompaction order d next inputs rest outputs contents level
@@ -114,7 +114,7 @@ pub record IsJobPut (order : Order) (deep : List ℕ → Bool) (level : ℕ) (sn
   pub short : (output : TableContent) → InTables outputs output → HasBytes (IsLongTable order) files output → ⊥
   pub needed : AreNeeded (map entry_of came) snapshots deep (tabled outputs)
 
--- So it is with each job that is done.
+-- The same holds for each job that is done.
 abbrev pub JobDoneLaw : Type 0
 JobDoneLaw = (order : Order) (deep : List ℕ → Bool) (plan : JobPlan) (last : List ℕ) (c : Choosing) (facts : Facts) (number : ℕ) (came : List InternalEntry) (edit : List Field) (d : Directory) (inputs rest : List TableContent)
     → IsJobDone order deep plan last c facts number came edit d inputs rest
@@ -125,15 +125,15 @@ abbrev pub UnusedLaw : Type 0
 UnusedLaw = (w : TablesWritten) (edit : List Field) (tables : List PlacedTable)
     → AllByRecursion (IsOwnIn w) edit → ((number : ℕ) → IsOwn w number → is_used number tables ≡ false) → AllByRecursion (IsUnused tables) edit
 
--- ---- behind the MANIFEST
+-- ---- after the MANIFEST
 
 -- A reader at a sequence number that sees what one of the snapshots sees, sees the same.
 abbrev pub AreSeenAlike : List Entry → List ℕ → Directory → Directory → Type 0
 AreSeenAlike merged snapshots before after = (p : ℕ) (map : Contents) → SeesAsOne merged snapshots p → IsView (entries_in before) p map → IsView (entries_in after) p map
 
--- Once the edit stands behind the MANIFEST, and no other file has changed, the directory is
--- consistent with the outputs in the place of the inputs. Where of each key of the inputs all else
--- is newer, or the job has kept deletes of it, the views of the snapshots are as they were.
+-- Once the edit stands after the MANIFEST, and no other file has changed, the directory is
+-- consistent with the outputs instead of the inputs. Where of each key of the inputs all else is
+-- newer, or the job has kept deletes of it, the views of the snapshots are as they were.
 abbrev pub JobPutLaw : Type 0
 JobPutLaw = (order : Order) (deep : List ℕ → Bool) (level : ℕ) (snapshots : List ℕ) (old new : Files) (came : List InternalEntry) (edit : List Field) (d : Directory) (next : Layout) (inputs rest outputs contents : List TableContent)
     → IsConsistent order old d → IsJobPut order deep level snapshots old came edit d inputs rest outputs contents → SameEntries (map entry_of came) (tabled inputs)
@@ -142,8 +142,8 @@ JobPutLaw = (order : Order) (deep : List ℕ → Bool) (level : ℕ) (snapshots 
     × (used_in (compacted d (d.edits ++ edit ∷ []) next contents) ≡ used_in d)
     × (AreNewerOrDeep (tabled inputs) (tabled rest ++ logged d.logs) deep → AreSeenAlike (tabled inputs) snapshots d (compacted d (d.edits ++ edit ∷ []) next contents))
 
--- So it is where the inputs are closed, and `deep` has the keys of all tables below the level that
--- is written.
+-- The same holds if the inputs are closed, and `deep` has the keys of all tables below the level
+-- that is written.
 abbrev pub JobApartLaw : Type 0
 JobApartLaw = (order : Order) (files : Files) (d : Directory) (inputs rest : List TableContent) (level : ℕ) (deep : List ℕ → Bool) → IsTotalOrder order.cmp
     → IsConsistent order files d → AreParted d.tables inputs rest → AreClosedInputs order inputs rest level

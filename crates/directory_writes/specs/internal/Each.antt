@@ -20,8 +20,8 @@ use Rattle.directory_writes.specs.internal.Manifest.{AppendsEdit}
 abbrev pub SameChangeLaw : Type 0
 SameChangeLaw = (old new whole : Files) → DiffersInTables old whole → (after : Files) × IsSameChange old new whole after × DiffersInTables new after
 
--- So does whatever the same change leaves; where both had the same file before, they have the same
--- one then.
+-- What the same change leaves differs in tables alone too; where both had the same file before,
+-- they have the same one then.
 abbrev pub SameFileLaw : Type 0
 SameFileLaw = (old new whole after : Files) → DiffersInTables old whole → IsSameChange old new whole after
     → DiffersInTables new after × ((name : List ℕ) → get whole name ≡ get old name → get after name ≡ get new name)
@@ -38,7 +38,7 @@ abbrev pub OneChangeLaw : Type 0
 OneChangeLaw = (old new : Files) → DiffersInTables old old × IsSameChange old new old new
     × ((whole after other : Files) → IsSameChange old new whole after → IsSameChange old new whole other → after ≡ other)
 
--- Bytes behind a file that is the same in both stand behind it in both.
+-- Bytes after a file that is the same in both stand after it in both.
 abbrev pub AppendsEachLaw : Type 0
 AppendsEachLaw = (old new : Files) (name bytes : List ℕ)
     → (Appends old new name bytes → OfEach (λ whole after. get whole name ≡ get old name → Appends whole after name bytes) old new)
@@ -54,7 +54,7 @@ abbrev pub WritesTablesEachLaw : Type 0
 WritesTablesEachLaw = (old new : Facts) (w : TablesWritten) (next more : ℕ) → IsTrue new.faithful → WritesTables old new (IsMineUpTo w next more)
     → OfEach (λ whole after. WritesTables (with_files old whole) (with_files new after) (IsMineUpTo w next more)) old.files new.files
 
--- An edit that is put behind the MANIFEST, or in doubt there, is so there too.
+-- An edit that is put after the MANIFEST, or in doubt there, is so there too.
 abbrev pub AppendsEditEachLaw : Type 0
 AppendsEditEachLaw = (order : Order) (old new : Facts) (number : ℕ) (name : List ℕ) (end : ℕ) (edit : List Field) (result : Result ℕ DbError)
     → IsTrue new.faithful → AppendsEdit order old new number name end edit result

@@ -75,7 +75,7 @@ RefusesNewTable (Corrupt file what) old new entries tables next after = HasNumbe
 RefusesNewTable NumbersSpent old new entries tables next after = (2 ^ 62 ≤ next) × (after ≡ next) × (new ≡ old)
 RefusesNewTable e old new entries tables next after = ⊥
 
--- Why it wasn't flushed: for one of these reasons, or since the device failed at the edit.
+-- Why it wasn't flushed: for one of these reasons, or since the store failed at the edit.
 abbrev pub RefusesFlush : FlushError → Facts → Facts → List Entry → List PlacedTable → ℕ → ℕ → Type 0
 RefusesFlush (Before e) old new entries tables next after = RefusesNewTable e old new entries tables next after
 RefusesFlush Edit old new entries tables next after = old.failures < new.failures
@@ -97,7 +97,7 @@ pub record HasNewVersion (cmp : List ℕ → List ℕ → Ordering) (number : �
 abbrev pub AnswersVersion : {K : Type 0} → (List ℕ → List ℕ → Ordering) → Placement → ℕ → ℕ → Result (Flushed K) FlushError → Type 0
 AnswersVersion cmp old next after result = IfOk result (λ flushed. (flushed.number ≡ next) × (after ≡ next + 1) × HasNewVersion cmp next old flushed.version.value)
 
--- Behind a flush the device keeps the whole table and the whole MANIFEST.
+-- After a flush the disk keeps the whole table and the whole MANIFEST.
 pub record SyncsFlush {T E : Type 0} (new : Facts) (name manifest_name : List ℕ) (result : Result T E) : Type 0 where
   pub table : OnOk result (IsTrue new.faithful → name ≢ manifest_name → new.synced name ≡ get new.files name)
   pub manifest : OnOk result (IsTrue new.faithful → new.synced manifest_name ≡ get new.files manifest_name)
@@ -127,9 +127,9 @@ Prepares order new next after plan entries old result = IfOk result (λ prepared
 
 -- ---- what the directory means
 
--- The files are a directory whose logs are sealed ones, which have the entries of the memtable,
--- and the current one; the edit that is planned can be put behind its MANIFEST; no number from
--- `next` on is taken, and the tables are the directory's.
+-- The files are a directory whose logs are sealed ones, which have the entries of the memtable, and
+-- the current one. The edit that is planned can be put after its MANIFEST. No number from `next` on
+-- is taken, and the tables are the directory's.
 pub record CanFlush (order : Order) (files : Files) (next : ℕ) (plan : FlushPlan) (manifest : CurrentManifest) (entries : List Entry) (tables : List PlacedTable)
     (d : Directory) (sealed : List LogContent) (current : LogContent) : Type 0 where
   pub consistent : IsConsistent order files d
@@ -201,7 +201,7 @@ FlushMeans order old new next after plan manifest entries tables d sealed curren
 FlushMeans order old new next after plan manifest entries tables d sealed current (Err (Before e)) = (IsCorrupt e → ⊥) × IsUnflushed order old new after plan manifest entries tables d sealed current
 FlushMeans order old new next after plan manifest entries tables d sealed current (Err Edit) = MayBeFlushed order old new next after entries d sealed current
 
--- A stop in its middle leaves what a failure of the device at the edit does.
+-- A process crash in its middle leaves what a failure of the store at the edit does.
 abbrev pub FlushMayLeave : Order → Files → ℕ → ℕ → FlushPlan → CurrentManifest → List Entry → List PlacedTable → Files → Type 0
 FlushMayLeave order old next after plan manifest entries tables new = (d : Directory) (sealed : List LogContent) (current : LogContent)
     → CanFlush order old next plan manifest entries tables d sealed current → MayBeFlushed order old new next after entries d sealed current

@@ -1,5 +1,5 @@
--- What the end of a job does to the directory: its outputs come in the place of its inputs
--- (LevelDB's db/db_impl.cc, InstallCompactionResults).
+-- What the end of a job does to the directory: its outputs come instead of its inputs (LevelDB's
+-- db/db_impl.cc, InstallCompactionResults).
 use Rattle.std.specs.Prelude.{◌≡◌, ◌≢◌, ◌⊎◌, ◌<◌, ◌≤◌, ◌^◌, ℕ, Bool, List, [], ◌∷◌, ◌++◌, map, All, IsTrue, IfOk, Some, Result, Ok, Err, string_bytes}
 use Rattle.std.specs.FinMap.{get}
 use Rattle.std.specs.List.{AllByRecursion, Contains}
@@ -79,7 +79,7 @@ MayBeTooLong cmp job old next =
 abbrev pub RefusesEdit : {K C : Type 0} → DbError → (List ℕ → List ℕ → Ordering) → Job K C → Facts → Facts → ℕ → ℕ → List PlacedTable → Type 0
 RefusesEdit e cmp job old new next last_sequence tables = RefusesEntry e old new (HasNoRoom cmp job old new next last_sequence tables) (MayBeTooLong cmp job old next) ⊥
 
--- Why a job wasn't installed: for one of these reasons, or since the device failed at the edit.
+-- Why a job wasn't installed: for one of these reasons, or since the store failed at the edit.
 abbrev pub RefusesInstall : {K C : Type 0} → FlushError → (List ℕ → List ℕ → Ordering) → Job K C → Facts → Facts → ℕ → ℕ → List PlacedTable → Type 0
 RefusesInstall (Before e) cmp job old new next last_sequence tables = RefusesEdit e cmp job old new next last_sequence tables
 RefusesInstall Edit cmp job old new next last_sequence tables = old.failures < new.failures
@@ -102,7 +102,7 @@ abbrev pub AreOldOrSynced : Facts → List PlacedTable → List PlacedTable → 
 AreOldOrSynced facts old new = (placed : PlacedTable) → Contains new placed → Contains old placed ⊎ IsTableSynced facts placed.table.number
 
 -- The new version is in order, and is the old one after an edit that can be written: that of the
--- plan, which takes its inputs away and puts tables into its output level that the job wrote.
+-- plan. It removes its inputs and puts tables into its output level that the job wrote.
 pub record HasJobVersion (cmp : List ℕ → List ℕ → Ordering) (plan : JobPlan) (w : TablesWritten) (old new : Placement) : Type 0 where
   pub edit : List Field
   pub proper : All IsProper edit
@@ -129,7 +129,7 @@ pub record HasPreparedJob {K C : Type 0} (cmp : List ℕ → List ℕ → Orderi
 
 -- ---- what the directory means
 
--- The files are this directory. An edit can be put behind its MANIFEST, no number from `next` on is
+-- The files are this directory. An edit can be put after its MANIFEST, no number from `next` on is
 -- taken, and the tables are the directory's.
 pub record IsServed (order : Order) (files : Files) (next : ℕ) (manifest : CurrentManifest) (tables : List PlacedTable) (d : Directory) : Type 0 where
   pub consistent : IsConsistent order files d
@@ -155,7 +155,7 @@ pub record CanInstall {K C : Type 0} (order : Order) (deep : List ℕ → Bool) 
   pub used : last_sequence ≡ used_in d
 
 -- The files are the same directory, but that outputs at this level, with what must be kept of the
--- inputs, are in their place. Readers see what they saw, and no limit is passed that wasn't.
+-- inputs, replace them. Readers see what they saw, and no limit is passed that wasn't.
 pub record HasInstalled (order : Order) (deep : List ℕ → Bool) (level : ℕ) (snapshots : List ℕ) (old new : Files) (came : List InternalEntry) (d : Directory) (inputs rest : List TableContent) : Type 0 where
   pub outputs : List TableContent
   pub contents : List TableContent
@@ -195,7 +195,7 @@ InstallMeans order deep job old new next manifest tables came d inputs rest (Ok 
 InstallMeans order deep job old new next manifest tables came d inputs rest (Err (Before e)) = (IsCorrupt e → ⊥) × IsUninstalled order old new next manifest tables d
 InstallMeans order deep job old new next manifest tables came d inputs rest (Err Edit) = MayBeInstalled order deep job.plan.output_level job.selection.snapshots old new next came d inputs rest
 
--- A stop in its middle leaves what a failure of the device at the edit does.
+-- A process crash in its middle leaves what a failure of the store at the edit does.
 abbrev pub InstallMayLeave : {K C : Type 0} → Order → Job K C → Facts → ℕ → ℕ → CurrentManifest → List PlacedTable → Files → Type 0
 InstallMayLeave order job old next last_sequence manifest tables new = (deep : List ℕ → Bool) (came : List InternalEntry) (d : Directory) (inputs rest : List TableContent)
     → CanInstall order deep job old next last_sequence manifest tables came d inputs rest → MayBeInstalled order deep job.plan.output_level job.selection.snapshots old.files new next came d inputs rest
@@ -205,13 +205,13 @@ abbrev pub PutsOwn : Order → TablesWritten → Files → Directory → Type 0
 PutsOwn order w new d = (e : Directory) → IsConsistent order new e → (placed : PlacedTable) → Contains e.layout.tables.items placed
     → Contains d.layout.tables.items placed ⊎ (IsOwn w placed.table.number × ((file : List ℕ) × (get new (table_name placed.table.number) ≡ Some file)))
 
--- So it is where the device failed at the edit.
+-- The same holds if the store failed at the edit.
 abbrev pub InstallPutsOwn : {K C : Type 0} → Order → Job K C → Facts → Facts → ℕ → ℕ → CurrentManifest → List PlacedTable → Result (Installed K) FlushError → Type 0
 InstallPutsOwn order job old new next last_sequence manifest tables result =
     result ≡ Err Edit → IsTrue new.faithful → (deep : List ℕ → Bool) (came : List InternalEntry) (d : Directory) (inputs rest : List TableContent)
     → CanInstall order deep job old next last_sequence manifest tables came d inputs rest → PutsOwn order job.outputs new.files d
 
--- A stop in its middle leaves what a failure of the device at the edit does.
+-- A process crash in its middle leaves what a failure of the store at the edit does.
 abbrev pub InstallMayPutOwn : {K C : Type 0} → Order → Job K C → Facts → ℕ → ℕ → CurrentManifest → List PlacedTable → Files → Type 0
 InstallMayPutOwn order job old next last_sequence manifest tables new = (deep : List ℕ → Bool) (came : List InternalEntry) (d : Directory) (inputs rest : List TableContent)
     → CanInstall order deep job old next last_sequence manifest tables came d inputs rest → PutsOwn order job.outputs new d

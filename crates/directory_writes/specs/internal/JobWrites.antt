@@ -13,8 +13,8 @@ use Rattle.recover.specs.Numbers.{IsFree}
 use Rattle.compact.specs.Outputs.{TablesWritten, AreNumbered, IsMineUpTo, WritesTables}
 use Rattle.directory_writes.specs.Replacing.{OwnsNone}
 
--- A directory of these parts stays one, its MANIFEST and its last log end where they did, tables of
--- other numbers are as they were, and no number from `more` on is taken.
+-- A directory of these parts stays one, and its MANIFEST and its last log end where they did.
+-- Tables of other numbers are as they were, and no number from `more` on is taken.
 pub record KeepsOtherTables (order : Order) (old new : Files) (mine : ℕ → Type 0) (more : ℕ) (d : Directory) : Type 0 where
   pub consistent : IsConsistent order new d
   pub log : (number position : ℕ) → EndsAt old d number position → EndsAt new d number position

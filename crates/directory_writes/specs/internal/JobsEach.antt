@@ -20,7 +20,7 @@ abbrev pub MergingEachLaw : Type 0
 MergingEachLaw = (cmp : List ℕ → List ℕ → Ordering) (deep : List ℕ → Bool) (last : List ℕ) (c : Choosing) (w : TablesWritten) (facts : Facts) (next : ℕ) (came : List InternalEntry) (whole : Files)
     → AreNumbered w next → HasSameOutputs w facts.files whole → IsMerging cmp deep last c w facts next came → IsMerging cmp deep last c w (with_files facts whole) next came
 
--- They have them still behind a change by which some of numbers that were free came to them.
+-- They have them still after a change by which some of numbers that were free came to them.
 abbrev pub SameOutputsLaw : Type 0
 SameOutputsLaw = (order : Order) (old new whole after : Files) (w v : TablesWritten) (next : ℕ) → DiffersInTables old whole → IsSameChange old new whole after → IsFree order whole next → HasSameOutputs w old whole
     → ((number : ℕ) → IsOwn v number → IsOwn w number ⊎ ((next ≤ number) × IsNumbered number)) → HasSameOutputs v new after

@@ -29,18 +29,18 @@ RefusesLog Io old new next after = old.failures < new.failures
 RefusesLog NumbersSpent old new next after = (2 ^ 62 ≤ next) × (after ≡ next) × (new ≡ old)
 RefusesLog e old new next after = ⊥
 
--- The same directory with an empty log of this number behind the others, where a record can be put.
+-- The same directory with an empty log of this number after the others, where a record can be put.
 pub record HasNewLog (order : Order) (files : Files) (d : Directory) (number : ℕ) : Type 0 where
   pub consistent : IsConsistent order files (with_log d number)
   pub ends : EndsAt files (with_log d number) number 0
   pub entries : logged (with_log d number).logs ≡ logged d.logs
 
--- It is the same directory, or has an empty log of this number behind the others.
+-- It is the same directory, or has an empty log of this number after the others.
 abbrev pub MayHaveLog : Order → Files → ℕ → Files → Type 0
 MayHaveLog order old number new = (d : Directory) → IsConsistent order old d → IsFree order old number → IsConsistent order new d ⊎ HasNewLog order new d number
 
--- An empty log of this number is there; or, where the device fails, perhaps. The MANIFEST stays,
--- and no number from `after` on is taken.
+-- An empty log of this number is there; or, if the store fails, perhaps. The MANIFEST stays, and no
+-- number from `after` on is taken.
 pub record BeginsLog {T : Type 0} (order : Order) (old new : Facts) (number after : ℕ) (result : Result T DbError) : Type 0 where
   pub ok : IsTrue new.faithful → OnOk result ((d : Directory) → IsConsistent order old.files d → IsFree order old.files number → HasNewLog order new.files d number)
   pub err : IsTrue new.faithful → OnErr result ((d : Directory) → IsConsistent order old.files d → IsFree order old.files number → IsConsistent order new.files d ⊎ HasNewLog order new.files d number)

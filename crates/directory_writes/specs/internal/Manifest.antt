@@ -1,4 +1,4 @@
--- What an edit behind the MANIFEST does to the directory (LevelDB's db/version_set.cc,
+-- What an edit after the MANIFEST does to the directory (LevelDB's db/version_set.cc,
 -- VersionSet::LogAndApply).
 use Rattle.std.specs.Prelude.{◌≡◌, ◌⊎◌, ◌<◌, ◌≤◌, ℕ, List, [], ◌∷◌, ◌++◌, IsTrue, Result, Err, IfOk, OnOk, OnErr}
 use Rattle.std.specs.List.{AllByRecursion}
@@ -17,7 +17,7 @@ use Rattle.recover.specs.Directory.{HasManifest}
 use Rattle.recover.specs.internal.Changes.{ManifestEndsAt}
 use Rattle.recover.specs.Numbers.{NamesBelow, IsFree}
 
--- The file of this name is the current MANIFEST, and ends at this position behind these edits. With
+-- The file of this name is the current MANIFEST, and ends at this position after these edits. With
 -- one more they leave the layout `next`.
 pub record CanAddEdit (order : Order) (files : Files) (number : ℕ) (name : List ℕ) (end : ℕ) (edits : List (List Field)) (layout : Layout) (edit : List Field) (next : Layout) : Type 0 where
   pub named : name ≡ name_of (Manifest number)
@@ -31,9 +31,9 @@ pub record IsRecordedBelow (n : ℕ) (edit : List Field) (next : Layout) : Type 
   pub previous_log_number : next.previous_log_number < n
   pub named : AllByRecursion (NamesBelow n) edit
 
--- The edit is put behind the MANIFEST of this name, which ends at `end`; or, where the device
--- fails, it is there or not for whoever reads it next. Nothing else changes, and out of memory
--- nothing at all. Numbers above those that it records stay free.
+-- The edit is put after the MANIFEST of this name, which ends at `end`; or, if the store fails, it
+-- is there or not for whoever reads it next. Nothing else changes, and out of memory nothing at
+-- all. Numbers above those that it records stay free.
 pub record AppendsEdit (order : Order) (old new : Facts) (number : ℕ) (name : List ℕ) (end : ℕ) (edit : List Field) (result : Result ℕ DbError) : Type 0 where
   pub ok : IsTrue new.faithful → IfOk result (λ after. (edits : List (List Field)) (layout next : Layout) → CanAddEdit order old.files number name end edits layout edit next
       → ManifestEndsAt order new.files number after (edits ++ edit ∷ []) next)
@@ -44,7 +44,7 @@ pub record AppendsEdit (order : Order) (old new : Facts) (number : ℕ) (name : 
   pub free : IsTrue new.faithful → (edits : List (List Field)) (layout next : Layout) → CanAddEdit order old.files number name end edits layout edit next
       → (n : ℕ) → IsFree order old.files n → IsRecordedBelow n edit next → IsFree order new.files n
 
--- Where it is put there, the device keeps the whole MANIFEST. Of no other file does it keep more or
+-- Where it is put there, the disk keeps the whole MANIFEST. Of no other file does it keep more or
 -- less than before.
 pub record SyncsEdit (old new : Facts) (name : List ℕ) (result : Result ℕ DbError) : Type 0 where
   pub ok : IsTrue new.faithful → OnOk result (new.synced name ≡ get new.files name)

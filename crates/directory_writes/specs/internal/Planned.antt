@@ -23,8 +23,8 @@ use Rattle.compact.specs.Laws.{AreNewerOrDeep}
 use Rattle.compact.specs.Merging.{HaveOwnSequences}
 use Rattle.directory_writes.specs.Replacing.{placed_in, IsPlanned}
 
--- So it is with each plan for a version of a consistent directory, where the keys that tables below
--- the plan's level cover are the deep ones.
+-- The same holds for each plan for a version of a consistent directory, where the keys that tables
+-- below the plan's level cover are the deep ones.
 abbrev pub PlannedLaw : Type 0
 PlannedLaw = (order : Order) (files : Files) (d : Directory) (tables : List PlacedTable) (plan : JobPlan) → IsTotalOrder order.cmp → IsAntisymmetric order.cmp
     → IsConsistent order files d → ListsSameTables (placed_in d.tables) tables → AreInOrder order.cmp tables → IsPlanOf order.cmp tables plan

@@ -1,5 +1,5 @@
--- What the removal of all files that aren't live leaves (LevelDB's doc/impl.md, "Garbage collection
--- of files", and its db/db_impl.cc, DBImpl::RemoveObsoleteFiles).
+-- What the removal of all obsolete files leaves (LevelDB's doc/impl.md, "Garbage collection of
+-- files", and its db/db_impl.cc, DBImpl::RemoveObsoleteFiles).
 use Rattle.std.specs.Prelude.{◌≡◌, ◌⊎◌, ◌↔◌, ◌<◌, ◌≤◌, ◌+◌, ℕ, Bool, true, false, Option, Some, None, List, IsSome, IsTrue, Result, IfOk, OnErr, Contains, length}
 use Rattle.std.specs.FinMap.{get, contains_key}
 use Rattle.coding.specs.declared.error.DbError.{DbError}
@@ -20,12 +20,12 @@ use Rattle.directory_writes.specs.internal.Calls.{LeavesFile}
 use Rattle.directory_writes.specs.declared.removal.Removal.{Removal}
 use Rattle.directory_writes.specs.Removal.{HasBoth, IsDead}
 
--- each file is as before, or isn't live and is gone
+-- each file is as before, or is obsolete and is gone
 abbrev pub LosesDeadOnly : Files → (FileName → Type 0) → Files → Type 0
 LosesDeadOnly old live new = (name : List ℕ) → (get new name ≡ get old name) ⊎ (IsDead live name × (get new name ≡ None))
 
--- A file is as before, or isn't live and is gone. Where the removal is complete, none of these
--- names is that of a file that is there and isn't live; and it is complete exactly where the store
+-- A file is as before, or is obsolete and is gone. Where the removal is complete, none of these
+-- names is that of a file that is there and is obsolete; and it is complete exactly where the store
 -- didn't fail.
 pub record RemovesNamed (old new : Facts) (live : FileName → Type 0) (names : List (List ℕ)) (complete : Bool) : Type 0 where
   pub files : IsTrue new.faithful → (name : List ℕ) → LeavesFile old new name ⊎ (IsDead live name × (get new.files name ≡ None))
@@ -41,8 +41,8 @@ pub record RemovesDead (old new : Facts) (live : FileName → Type 0) (result : 
   pub stood : IfOk result (λ removal. IsTrue removal.complete → new.failures ≡ old.failures)
   pub err : IsTrue new.faithful → OnErr result ((new.files ≡ old.files) × (new.synced ≡ old.synced))
 
--- No more of these files stay without being live than calls of the store failed: each is live, is
--- gone, or has one of so many names; or it is one that waits, for those that couldn't be removed.
+-- No more of these files stay without being in use than calls of the store failed. Each is in use,
+-- is gone, or has one of so many names; or it is one that waits for those that couldn't be removed.
 abbrev pub LeavesFew : Facts → Facts → (FileName → Type 0) → (FileName → Type 0) → (List ℕ → Type 0) → Type 0
 LeavesFew old new live waits listed = IsTrue new.faithful → (left : List (List ℕ)) × (old.failures + length left ≤ new.failures)
     × ((file : FileName) → IsFileName file → listed (name_of file)
@@ -53,7 +53,7 @@ abbrev pub MayLose : Files → (ℕ → Type 0) → ℕ → Type 0
 MayLose files in_use n = (in_use n → ⊥) ⊎ HasBoth files n
 
 -- The files of a table, by both names, are as before; or it isn't in use, and reads as before or is
--- gone; or it had both, and that with the newer name is as before, so that it reads as before.
+-- gone. Or it had both, and that with the newer name is as before, so that it reads as before.
 abbrev pub KeepsTable : Facts → Facts → (ℕ → Type 0) → ℕ → Type 0
 KeepsTable old new in_use n =
     ((get new.files (name_of (Table n)) ≡ get old.files (name_of (Table n))) × (get new.files (name_of (OldTable n)) ≡ get old.files (name_of (OldTable n))))

@@ -28,7 +28,7 @@ pub record IsBegunAt {K : Type 0} {g : _} (work : OpenJob K g) (entries : List I
   pub above : AllUpTo reach (map entry_of entries)
 
 -- The job is under way over inputs that have the contents of this directory, in which the tables
--- that it wrote have the same files; without damage no block of them is torn. No table that it
+-- that it wrote have the same files. Without damage no block of them is torn. No table that it
 -- writes is one of the directory.
 pub record IsRunningOver {K : Type 0} {g : _} (order : Order) (damaged : Bool) (whole : Whole) (ideal : Files) (next : ℕ) (d : Directory) (work : OpenJob K g) (came left : List InternalEntry) : Type 0 where
   pub inputs : List TableContent

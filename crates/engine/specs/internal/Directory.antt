@@ -33,7 +33,7 @@ abbrev pub MeansWith : Order → Files → Machine → List Operation → Type 0
 MeansWith order files m operations =
     Means order files (after_batch (current m) operations) (m.used + length operations) (entry_count m + length operations) (weight m + sum_by operation_weight operations)
 
--- It stands for what was accepted, with the batch in doubt as a whole or without it.
+-- It stands for what was accepted, with the in-doubt batch as a whole or without it.
 abbrev pub MeansAccepted : Order → Files → Machine → Type 0
 MeansAccepted order files m = MatchOption m.in_doubt (MeansCurrent order files m) (λ operations. MeansCurrent order files m ⊎ MeansWith order files m operations)
 

@@ -22,7 +22,7 @@ LeadsLent order facts old before new after moves = (ids : Ids) → LeadsOpen ord
 abbrev pub ServesLent : {S K : Type 0} {g : _} → (S → Facts) → Sources K S → DbState K g → Sources K S → DbState K g → Type 0
 ServesLent facts old before new after = ServesOn (facts old.tables.store) (facts new.tables.store) (open_db old.memory before) (open_db new.memory after)
 
--- what a call leaves over any store, whether it is refused or not
+-- what a call leaves over any store, whether it fails or not
 abbrev pub OutcomeLent : {S K T : Type 0} {g : _} → (DbError → Type 0) → (S → Facts) → Sources K S → DbState K g → Sources K S → DbState K g → Result T DbError → Type 0
 OutcomeLent may facts old before new after result = DbOutcome may (facts old.tables.store) (facts new.tables.store) (open_db old.memory before) (open_db new.memory after) result
 

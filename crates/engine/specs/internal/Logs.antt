@@ -1,4 +1,4 @@
--- What putting a batch behind the log does to the directory.
+-- What putting a batch after the log does to the directory.
 use Rattle.std.specs.Prelude.{◌≡◌, ◌⊎◌, ℕ, ◌+◌, ◌<◌, ◌≤◌, List, ◌++◌, ◌∷◌, [], length, IsTrue, Result, Err, IfOk, IfErr, OnOk}
 use Rattle.std.specs.List.{AllByRecursion}
 use Rattle.std.specs.FinMap.{get}
@@ -26,7 +26,7 @@ use Rattle.opening.specs.Losses.{IsNoneOf}
 use Rattle.engine.specs.internal.Directory.{IsReadable}
 use Rattle.opening.specs.internal.Directories.{IsDirectoryOf, CanAppend}
 
--- The bytes stand behind the file; or, where the device fails, nothing of them or a beginning.
+-- The bytes stand after the file; or, if the store fails, nothing of them or a beginning.
 pub record AppendsRecord (old new : Facts) (name bytes : List ℕ) (result : Result (Unit {0}) LogError) : Type 0 where
   pub faithful : IsTrue new.faithful → IsTrue old.faithful
   pub failures : old.failures ≤ new.failures
@@ -51,7 +51,7 @@ pub record SyncsThese (names : List (List ℕ)) (old new : Facts) : Type 0 where
   pub others : IsTrue new.faithful → (q : List ℕ) → IsNoneOf q names → new.synced q ≡ old.synced q
   pub keeps : IsTrue new.faithful → (q : List ℕ) → LeavesOrSyncs old new q
 
--- Each of them is; or, where the device fails, some are.
+-- Each of them is; or, if the store fails, some are.
 pub record SyncsFront (names : List (List ℕ)) (old new : Facts) (result : Result (Unit {0}) LogError) : Type 0 where
   pub these : SyncsThese names old new
   pub kept : IsTrue new.faithful → OnOk result (AllByRecursion (IsSynced new) names)
@@ -63,8 +63,8 @@ abbrev pub KeepsTables : Files → Files → Type 0
 KeepsTables old new = (number : ℕ)
     → (get new (name_of (Table number)) ≡ get old (name_of (Table number))) × (get new (name_of (OldTable number)) ≡ get old (name_of (OldTable number)))
 
--- The operations are put behind the log of this name, which ends at `end`, as a batch behind `used`
--- sequence numbers; or, where the device fails, none of them or all of them are there for the next
+-- The operations are put after the log of this name, which ends at `end`, as a batch after `used`
+-- sequence numbers. Or, if the store fails, none of them or all of them are there for the next
 -- open. Nothing else changes: no other part of the directory, nor where its MANIFEST ends, nor
 -- which numbers are free.
 pub record Logs (order : Order) (old new : Facts) (log : ℕ) (name : List ℕ) (end used : ℕ) (operations : List Operation) (result : Result ℕ LogError) : Type 0 where
@@ -95,7 +95,8 @@ abbrev pub SyncsEach : List (List ℕ) → Facts → Facts → Type 0
 SyncsEach [] old new = Idles old new
 SyncsEach (name ∷ names) old new = (mid : Facts) × Adds old mid (Sync name) × (mid.synced ≡ with_synced old.synced name (get old.files name)) × SyncsEach names mid new
 
--- So are these, and behind them all something is put behind a file; or the calls ended before that.
+-- The same for these, and after them all something is put after a file; or the calls ended before
+-- that.
 pub record SyncsThenPuts (names : List (List ℕ)) (old new : Facts) (puts : Facts → Type 0) : Type 0 where
   pub done : List (List ℕ)
   pub mid : Facts
@@ -113,13 +114,13 @@ pub record HasLastLog (order : Order) (files : Files) (d : Directory) (log used 
   pub batches : (next.batches ≡ last.batches) ⊎ (next.batches ≡ last.batches ++ (used + 1, operations) ∷ [])
   pub consistent : IsConsistent order files (record d { logs = before ++ next ∷ [] })
 
--- So it is wherever a beginning of these bytes stands behind the log of this name, which ended at
--- `end`.
+-- The same holds wherever a beginning of these bytes stands after the log of this name, which ended
+-- at `end`.
 abbrev pub AddsBatch : Order → Files → ℕ → List ℕ → ℕ → ℕ → List Operation → List ℕ → Type 0
 AddsBatch order old log name end used operations bytes = (files : Files) → AppendsBeginning old files name bytes → (tables : List TableContent) (entries : List Entry) → name ≡ name_of (Log log)
     → (a : CanAppend order old log end tables entries used) → HasLastLog order files a.directory log used operations
 
--- The bytes of a batch are put behind a log, and synced.
+-- The bytes of a batch are put after a log, and synced.
 pub record PutsBatch (old mid new : Facts) (log : ℕ) (name : List ℕ) (end used : ℕ) (operations : List Operation) : Type 0 where
   pub bytes : List ℕ
   pub puts : PutsSynced mid new name bytes

@@ -29,7 +29,7 @@ MayRefusePiece (error.Unsupported what) = Unit {0}
 MayRefusePiece error.NumbersSpent = Unit {0}
 MayRefusePiece _ = ⊥
 
--- Want of memory is answered as a failure of the store where a file couldn't be removed either.
+-- Out of memory is answered as a failure of the store where a file couldn't be removed either.
 abbrev pub refused_as : Bool → DbError → DbError
 refused_as complete error.OutOfMemory = if complete then error.OutOfMemory else error.Io
 refused_as complete e = e
@@ -50,8 +50,8 @@ abbrev pub broken_by : {K : Type 0} {g : _} → DbState K g → DbError → DbSt
 broken_by state error.Io = record state { broken = true }
 broken_by state _ = state
 
--- How a refusal is answered, and what it leaves: as it is, where it is so that no write of the
--- store failed meanwhile; and else with Io, and the database is broken.
+-- How an error is answered, and what it leaves: as it is, if no write of the store failed
+-- meanwhile. Else it is answered with Io, and the database is broken.
 abbrev pub settled_as : Bool → DbError → DbError
 settled_as true e = e
 settled_as false e = error.Io

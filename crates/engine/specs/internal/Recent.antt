@@ -1,5 +1,5 @@
--- Which of the accepted batches the logs have that this open began, and what the map was behind
--- each of them: what a loss of power may take.
+-- Which of the accepted batches the logs have that this open began, and what the map was after each
+-- of them: what a power loss may take.
 use Rattle.std.specs.Prelude.{◌≡◌, ◌⊎◌, Some, ◌≤◌, ◌<◌, ◌+◌, ℕ, List, [], ◌∷◌, ◌++◌, length, take, drop, sum_by}
 use Rattle.std.specs.List.{AllByRecursion}
 use Rattle.batch.specs.declared.operation.Operation.{Operation}
@@ -14,7 +14,7 @@ use Rattle.recover.specs.Logs.{Batch, IsBatchLog, LogContent, logged}
 use Rattle.recover.specs.Tables.{TableContent, tabled}
 use Rattle.store.specs.Files.{Facts}
 
--- Behind so many operations, these batches of logs are those.
+-- After so many operations, these batches of logs are those.
 abbrev pub AreLogged : ℕ → List Batch → List (List Operation) → Type 0
 AreLogged used [] [] = Unit {0}
 AreLogged used (batch ∷ batches) (operations ∷ others) = (batch.0 ≡ used + 1) × (batch.1 ≡ operations) × AreLogged (used + length operations) batches others
@@ -31,8 +31,8 @@ AreEmptyBehind [] = Unit {0}
 AreEmptyBehind (log ∷ logs) = AllByRecursion (λ (other : LogContent). other.batches ≡ []) logs
 
 -- The logs are those that the open found, whose numbers are below that of its MANIFEST; then those
--- begun since that are synced whole; then those that the device may not have whole, of which all
--- but the first are empty: that which writes go to is always one of them.
+-- begun since that are synced whole; then those that may not be durable whole. Of the last all but
+-- the first are empty, and the one that writes go to is always one of them.
 pub record AreParts (facts : Facts) (least : ℕ) (logs : List LogContent) : Type 0 where
   pub found : List LogContent
   pub kept : List LogContent
@@ -49,18 +49,18 @@ HaveSynced facts [] count = count ≡ 0
 HaveSynced facts (log ∷ logs) count =
     (count ≡ 0) ⊎ ((bytes : List ℕ) × (synced : List Batch) × (tail : Tail) × (facts.synced (name_of (Log log.number)) ≡ Some bytes) × IsBatchLog bytes synced tail × (count ≤ length synced) × (count ≤ length log.batches))
 
--- So many of the accepted batches are left whatever a loss of power takes: those in front of these
--- logs, those in logs that are synced whole, and those that are synced of the others.
+-- So many of the accepted batches are left whatever a power loss takes: those before these logs,
+-- those in logs that are synced whole, and those that are synced of the others.
 pub record AreSure (facts : Facts) (from : ℕ) (kept doubted : List LogContent) (count : ℕ) : Type 0 where
   pub others : ℕ
   pub synced : HaveSynced facts doubted others
   pub within : count ≤ from + (length (batches_in kept) + others)
 
--- What was accepted last is in the logs that were begun; and behind each of these batches, and in
--- front of the first, the entries show what the map was.
+-- What was accepted last is in the logs that were begun; and after each of these batches, and
+-- before the first, the entries show what the map was.
 pub record AreRecentOf (facts : Facts) (least : ℕ) (tables : List TableContent) (entries : List Entry) (logs : List LogContent) (base : Contents) (batches : List (List Operation)) (synced used : ℕ) : Type 0 where
   pub parts : AreParts facts least logs
-  -- the first of them, and how many operations were accepted in front of it
+  -- the first of them, and how many operations were accepted before it
   pub from : ℕ
   pub within : from ≤ length batches
   pub start : ℕ
@@ -68,7 +68,7 @@ pub record AreRecentOf (facts : Facts) (least : ℕ) (tables : List TableContent
   pub recent : AreLogged start (batches_in (parts.kept ++ parts.doubted)) (drop from batches)
   pub below : AllUpTo start (tabled tables ++ logged parts.found)
   pub past : (k : ℕ) → k ≤ length (drop from batches) → IsView entries (start + sum_by length (take k (drop from batches))) (after_batches base (take (from + k) batches))
-  -- those that a write had the device keep, with all in front of it
+  -- those that a write synced, with all before it
   pub sure : AreSure facts from parts.kept parts.doubted synced
 
 -- of a machine: what else it has makes no difference

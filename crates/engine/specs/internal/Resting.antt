@@ -31,7 +31,7 @@ abbrev pub StandsResult : {K : Type 0} {g : _} → Order → Seen → Memories �
 StandsResult order source memory ids (Ok state) m = StandsOpen order source ids (open_db memory state) m
 StandsResult order source memory ids (Err error) m = StandsClosed order source.facts ids m
 
--- At any moment since old a loss of power that cuts no file short which was there leaves files that
+-- At any moment since old a power loss that truncates no file that was there leaves files that
 -- stand for what was accepted.
 abbrev pub LosesMeaning : Order → Facts → Facts → Machine → Type 0
 LosesMeaning order old new m = LosesOnly old new (λ lost. LeavesUncut old lost → MeansAccepted order lost m)

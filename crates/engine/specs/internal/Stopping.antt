@@ -1,5 +1,5 @@
--- A stop is a failure that nobody saw: what a call leaves where the device fails, a stop in its
--- middle leaves too.
+-- A process crash is a failure that nobody saw: what a call leaves if the store fails, a process
+-- crash in its middle leaves too.
 use Rattle.std.specs.Prelude.{◌≡◌, false, IsTrue}
 use Rattle.store.specs.Files.{Facts, Files}
 use Rattle.store.specs.Stops.{LeavesOnly}
@@ -16,14 +16,14 @@ use Rattle.engine.specs.Reopening.{KeepsFound}
 use Rattle.engine.specs.internal.Directory.{MeansAccepted}
 use Rattle.engine.specs.internal.Standing.{StandsWhole}
 
--- From each state that it may have been in, not broken: a stop since leaves files of which this is
--- so.
+-- From each state that it may have been in, not broken: a process crash since leaves files of which
+-- this is so.
 abbrev pub StopsLent : {S K : Type 0} {g : _} → Order → (S → Facts) → Sources K S → DbState K g → Sources K S → (Machine → Files → Type 0) → Type 0
 StopsLent order facts old before new left =
     IsTrue (facts new.tables.store).faithful → (ids : Ids) (m : Machine) → StandsWhole order (seen_of facts old) ids (open_db old.memory before) m → before.broken ≡ false
     → LeavesOnly (facts old.tables.store) (facts new.tables.store) (left m)
 
--- And a loss of power the first batches of the machine that is made of it.
+-- And a power loss the first batches of the machine that is made of it.
 abbrev pub LosesLent : {S K : Type 0} {g : _} → Order → (S → Facts) → Sources K S → DbState K g → Sources K S → (Machine → Machine) → Type 0
 LosesLent order facts old before new made =
     IsTrue (facts new.tables.store).faithful → (ids : Ids) (m : Machine) → StandsWhole order (seen_of facts old) ids (open_db old.memory before) m → before.broken ≡ false
@@ -37,9 +37,9 @@ KeepsFoundLent order facts old before new =
 
 -- What is left at any moment of a call, from each state that it may have been in.
 pub record KeepsOpen {K : Type 0} {g : _} (order : Order) (old new : Seen) (before : OpenDb K g) : Type 0 where
-  -- by a stop: files that stand for what was accepted
+  -- by a process crash: files that stand for what was accepted
   pub stops : IsTrue new.facts.faithful → (ids : Ids) (m : Machine) → StandsWhole order old ids before m → LeavesOnly old.facts new.facts (λ files. MeansAccepted order files m)
-  -- by a loss of power, of a database that isn't broken: the first of what was accepted
+  -- by a power loss, of a database that isn't broken: the first of what was accepted
   pub loses : IsTrue new.facts.faithful → (ids : Ids) (m : Machine) → StandsWhole order old ids before m → before.broken ≡ false → LosesFirst order old.facts new.facts before m
   pub found : IsTrue new.facts.faithful → (ids : Ids) (m : Machine) → StandsWhole order old ids before m → before.broken ≡ false → KeepsFound old.facts new.facts before
 

@@ -1,4 +1,4 @@
--- What of its files an open database has had the device keep.
+-- What of its files an open database has synced.
 use Rattle.std.specs.Prelude.{◌≡◌, ◌<◌, ◌≤◌, ℕ, false, None, List, Contains, map, string_bytes}
 use Rattle.std.specs.FinMap.{get, contains_key}
 use Rattle.std.specs.List.{AllByRecursion}
@@ -11,9 +11,9 @@ use Rattle.opening.specs.declared.directory.DirectoryState.{DirectoryState}
 use Rattle.store.specs.Files.{Facts}
 use Rattle.store.specs.Losses.{StaysNamed, StaysOrBegins}
 
--- All that the next open reads is synced, but for the logs of these names, and for tables that were
--- there before this open: their numbers are below that of its MANIFEST, and what the device kept of
--- them is known to who wrote them.
+-- All that the next open reads is synced, except the logs of these names, and tables that were
+-- there before this open. The numbers of those are below that of its MANIFEST, and what is durable
+-- of them is known to who wrote them.
 pub record AreSyncedBut (logs : List (List ℕ)) (facts : Facts) (state : DirectoryState) (tables : List PlacedTable) : Type 0 where
   pub current : IsKept facts (name_of Current)
   pub manifest : IsKept facts (name_of (Manifest state.manifest.number))
@@ -30,8 +30,8 @@ pub record HaveNames (log : CurrentLog) (state : DirectoryState) (tables : List 
   pub manifest : IsNumbered state.manifest.number × (string_bytes state.manifest.name ≡ name_of (Manifest state.manifest.number))
   pub placed : (placed : PlacedTable) → Contains tables placed → IsNumbered placed.table.number × (placed.table.number < state.numbers.next)
 
--- Since the last sync no file that the next open reads was moved, replaced, made or taken away, but
--- for logs that were begun, of which nothing is synced; and there was no log with a number that is
+-- Since the last sync no file that the next open reads was moved, replaced, made or removed, except
+-- that logs were begun, of which nothing is synced. And there was no log with a number that is
 -- still to be drawn.
 pub record HaveStayed (facts : Facts) (state : DirectoryState) (tables : List PlacedTable) : Type 0 where
   pub current : StaysNamed facts (name_of Current)
@@ -43,7 +43,7 @@ pub record HaveStayed (facts : Facts) (state : DirectoryState) (tables : List Pl
       × (get facts.files (name_of (Table placed.table.number)) ≡ None → StaysNamed facts (name_of (OldTable placed.table.number)))
   pub undrawn : (n : ℕ) → IsNumbered n → state.numbers.next ≤ n → StaysNamed facts (name_of (Log n)) × (contains_key facts.files (name_of (Log n)) ≡ false)
 
--- All is synced but for the logs that a write with sync has the device keep.
+-- All is synced but for the logs that a write with sync syncs.
 pub record IsSyncedBut (facts : Facts) (log : CurrentLog) (state : DirectoryState) (tables : List PlacedTable) : Type 0 where
   pub synced : AreSyncedBut (logs_in_doubt log) facts state tables
   pub names : HaveNames log state tables

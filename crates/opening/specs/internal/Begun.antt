@@ -37,7 +37,7 @@ pub record IsBegun {K : Type 0} (order : Order) (begun : Begun K) : Type 0 where
   pub written : begun.memory.current.inserts ≡ []
 
 -- What a directory says is in memory: the entries of its logs, the last sequence number and the
--- tables. A record can be put behind the new log.
+-- tables. A record can be put after the new log.
 pub record HasBegun {K : Type 0} (order : Order) (files : Files) (begun : Begun K) (tables : List TableContent) (entries : List Entry) (used : ℕ) : Type 0 where
   pub inserts : logged_in begun.memory ≡ entries
   pub last : begun.memory.last ≡ used
@@ -46,14 +46,14 @@ pub record HasBegun {K : Type 0} (order : Order) (files : Files) (begun : Begun 
   pub logs : HasLogs log.directory begun.log.number begun.memory
   pub knows : KnowsDirectory order files log.directory begun.log.number begun.directory
 
--- So it is for what the directory says, wherever it is empty or consistent.
+-- The same holds for what the directory says, wherever it is empty or consistent.
 pub record Begins {K : Type 0} (order : Order) (mode : Mode) (old new : Files) (begun : Begun K) : Type 0 where
   pub allowed : AllowsFiles mode old
   pub made : contains_key new (name_of Current) ≡ true
   pub has : (tables : List TableContent) (entries : List Entry) (used : ℕ) → IsDirectoryOf order old tables entries used → HasBegun order new begun tables entries used
   pub least : (n : ℕ) → IsFree order old n → begun.directory.numbers.next ≤ n + 2
 
--- A refusal came before anything was written, or for want of memory, or since the store failed.
+-- A refusal came before anything was written, or out of memory, or since the store failed.
 abbrev pub IsUnwritten : DbError → Facts → Facts → Type 0
 IsUnwritten error old new = (IsTrue new.faithful → new.files ≡ old.files) ⊎ ((error ≡ OutOfMemory) ⊎ (error ≡ Io))
 
@@ -70,8 +70,8 @@ pub record IsFront (found : Found) (names : List (List ℕ)) : Type 0 where
   pub none : found.entries.items ≡ [] → names ≡ []
   pub all : found.entries.items ≢ [] → names ≡ names_of_logs found.logs.items
 
--- Which of the logs that the next open reads the device may not have whole, and that an open leaves
--- tables alone: those that are there, and all logs but the new one, have numbers below that of its
+-- Which of the logs that the next open reads may not be durable whole, and that an open leaves
+-- tables alone. Those that are there, and all logs but the new one, have numbers below that of its
 -- MANIFEST; the new one is above it.
 pub record BeginsSynced (old new : Facts) (log : CurrentLog) (state : DirectoryState) : Type 0 where
   pub logs : AreInDoubt new.files log state

@@ -7,8 +7,7 @@ use Rattle.store.specs.Files.{Facts, Files, Locks, MayLock}
 use Rattle.edits.specs.Names.{name_of}
 use Rattle.edits.specs.declared.names.FileName.TheVariants.{Current}
 
--- A call of the store: it is refused for want of memory, or since the store failed, which was
--- counted.
+-- A call of the store: it is refused out of memory, or since the store failed, which was counted.
 pub record Attempts {T : Type 0} (old new : Facts) (result : Result T DbError) : Type 0 where
   pub faithful : IsTrue new.faithful → IsTrue old.faithful
   pub failures : old.failures ≤ new.failures

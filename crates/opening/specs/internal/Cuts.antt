@@ -1,4 +1,4 @@
--- What a loss of power leaves in the middle of a call: a directory of which logs alone may be cut.
+-- What a power loss leaves in the middle of a call: a directory of which logs alone may be cut.
 use Rattle.std.specs.Prelude.{◌≡◌, ◌⊎◌, ℕ, List, None}
 use Rattle.std.specs.FinMap.{get}
 use Rattle.edits.specs.Names.{name_of}
@@ -27,10 +27,10 @@ pub record AreLeft (facts : Facts) (d : Directory) (lost : Files) : Type 0 where
 abbrev pub IsLeftCut : Order → Facts → Directory → Files → Type 0
 IsLeftCut order facts d lost = (logs : List LogContent) × AreCut facts d.logs logs × IsConsistent order lost (record d { logs = logs })
 
--- So it is, if the tables are left that aren't known to be synced.
+-- That holds, if the tables are left that aren't known to be synced.
 abbrev pub LeavesCutIf : Order → Facts → Directory → Files → Type 0
 LeavesCutIf order facts d lost = AreLeft facts d lost → IsLeftCut order facts d lost
 
--- So it is of one of these directories.
+-- The same holds of one of these directories.
 abbrev pub LeavesOneCut : Order → Facts → (Directory → Type 0) → Files → Type 0
 LeavesOneCut order facts Q lost = ((x : Directory) → Q x → AreLeft facts x lost) → (x : Directory) × Q x × IsLeftCut order facts x lost

@@ -14,7 +14,7 @@ IsDirectoryOf order files tables entries used =
     (IsEmpty files × (tables ≡ []) × (entries ≡ []) × (used ≡ 0))
     ⊎ ((d : Directory) × IsConsistent order files d × (tables ≡ d.tables) × (entries ≡ logged d.logs) × (used ≡ used_in d))
 
--- They are a consistent one, and a record can be put behind the log of this number, which ends at
+-- They are a consistent one, and a record can be put after the log of this number, which ends at
 -- this position.
 pub record CanAppend (order : Order) (files : Files) (log position : ℕ) (tables : List TableContent) (entries : List Entry) (used : ℕ) : Type 0 where
   pub directory : Directory

@@ -13,8 +13,8 @@ use Rattle.store.specs.Files.{Files}
 use Rattle.opening.specs.declared.directory.DirectoryState.{DirectoryState}
 
 -- The last log of the directory has this number, and the entries of the current memtable; those
--- in front of it have the sealed one's. Where no table is sealed there are none in front, and one
--- that is sealed has entries.
+-- before it have the sealed one's. Where no table is sealed there are none in front, and one that
+-- is sealed has entries.
 pub record HasLogs (d : Directory) (log : ℕ) (memory : Memories) : Type 0 where
   pub sealed : List LogContent
   pub current : LogContent
@@ -25,8 +25,8 @@ pub record HasLogs (d : Directory) (log : ℕ) (memory : Memories) : Type 0 wher
   pub front : memory.sealed ≡ None → sealed ≡ []
   pub some : sealed_inserts memory ≡ [] → memory.sealed ≡ None
 
--- The database knows which logs the directory reads, which MANIFEST is current and where that ends,
--- so that an edit can be put behind it, and a number from which on none is taken.
+-- The database knows which logs the directory reads, and a number from which on none is taken. It
+-- knows which MANIFEST is current and where that ends, so that an edit can be put after it.
 pub record KnowsDirectory (order : Order) (files : Files) (d : Directory) (log : ℕ) (state : DirectoryState) : Type 0 where
   pub first_log : d.layout.log_number ≡ state.first_log
   pub forward : state.first_log ≤ log

@@ -108,7 +108,7 @@ pub record IsNewManifest (order : Order) (found : Found) (bytes : List ℕ) : Ty
   pub pointers : layout.compact_pointers.items ≡ found.layout.compact_pointers.items
   pub tables : layout.tables.items ≡ found.layout.tables.items
   pub logs : KeepsLogs found layout.log_number layout.previous_log_number
-  -- an edit can be put behind it
+  -- an edit can be put after it
   pub clean : spelled.tail ≡ Clean
 
 -- The names and the bytes that the open writes.
@@ -127,16 +127,18 @@ pub record IsKnownAfter (found : Found) (name : List ℕ) (end : ℕ) (state : D
   pub next : state.numbers.next ≡ found.number + 2
   pub logs : KeepsLogs found state.first_log state.previous_log
 
--- What an open leaves of a directory, wherever it ended: what it says, `CURRENT`, which file
--- numbers are free but for the two that it may have drawn, and that no limit of reading is passed.
+-- What an open leaves of a directory as it was, wherever it ended. That is what it says, `CURRENT`,
+-- which file numbers are free except the two that it may have drawn, and that no limit of reading
+-- is passed.
 pub record IsContinued (order : Order) (old new : Files) : Type 0 where
   pub meaning : (tables : List TableContent) (entries : List Entry) (used : ℕ) → IsDirectoryOf order old tables entries used → IsDirectoryOf order new tables entries used
   pub made : contains_key old (name_of Current) ≡ true → contains_key new (name_of Current) ≡ true
   pub free : (m : ℕ) → IsFree order old m → IsFree order new (m + 2)
   pub limits : (tables : List TableContent) (entries : List Entry) (used : ℕ) → IsDirectoryOf order old tables entries used → IsWithinLimits order old → IsWithinLimits order new
 
--- A record can be put behind the new log, which is empty and behind logs with all entries, and an
--- edit behind the new MANIFEST, which is current, has this length, and says which logs are live.
+-- A record can be put after the new log, which is empty and after logs with all entries. An edit
+-- can be put after the new MANIFEST, which is current, has this length, and says which logs are in
+-- use.
 pub record HasRewritten (order : Order) (files : Files) (found : Found) (end : ℕ) (tables : List TableContent) (entries : List Entry) (used : ℕ) : Type 0 where
   pub log : CanAppend order files (found.number + 1) 0 tables entries used
   pub before : List LogContent
@@ -147,7 +149,7 @@ pub record HasRewritten (order : Order) (files : Files) (found : Found) (end : �
   pub live : KeepsLogs found log.directory.layout.log_number log.directory.layout.previous_log_number
   pub forward : log.directory.layout.log_number ≤ found.number + 1
 
--- There is a database, which was rewritten, and the numbers from behind the new log on are free.
+-- There is a database, which was rewritten, and the numbers from after the new log on are free.
 pub record IsReady (order : Order) (old new : Files) (found : Found) (end : ℕ) : Type 0 where
   pub made : contains_key new (name_of Current) ≡ true
   pub ends : (tables : List TableContent) (entries : List Entry) (used : ℕ) → IsDirectoryOf order old tables entries used → HasRewritten order new found end tables entries used

@@ -1,5 +1,5 @@
--- What an open does to the store, one call behind the other: each step behind the one in front of
--- it, where that was done, or the calls ended there.
+-- What an open does to the store, one call after the other: each step after the one before it,
+-- where that was done, or the calls ended there.
 use Rattle.std.specs.Prelude.{◌≡◌, ◌⊎◌, ◌+◌, ℕ, false, List, [], Some, string_bytes}
 use Rattle.std.specs.FinMap.{get, contains_key}
 use Rattle.store.specs.Calls.{Adds, Idles}
@@ -19,7 +19,7 @@ use Rattle.opening.specs.internal.Opening.{Finds, IsRewrite, IsUsable}
 abbrev pub OnlyIt : Facts → Facts → List ℕ → Type 0
 OnlyIt old new name = WritesOnly old new (λ (q : List ℕ). q ≡ name)
 
--- A file was written anew, and the device has it.
+-- A file was written anew, and is durable.
 pub record IsWritten (old new : Facts) (name bytes : List ℕ) : Type 0 where
   pub only : OnlyIt old new name
   pub there : get new.files name ≡ Some bytes
@@ -32,7 +32,7 @@ pub record IsWritten (old new : Facts) (name bytes : List ℕ) : Type 0 where
 abbrev pub IsRenamed : Facts → Facts → List ℕ → Type 0
 IsRenamed old new temporary = Adds old new (Move temporary (name_of Current)) × (new.synced ≡ renamed old.synced temporary (name_of Current))
 
--- and the device was asked to keep that, and does
+-- and that was synced
 abbrev pub IsCurrentSynced : Facts → Facts → Type 0
 IsCurrentSynced old new = Adds old new (Sync (name_of Current)) × (new.synced ≡ with_synced old.synced (name_of Current) (get old.files (name_of Current)))
 
@@ -40,7 +40,7 @@ IsCurrentSynced old new = Adds old new (Sync (name_of Current)) × (new.synced �
 abbrev pub SetsWhole : Facts → Facts → List ℕ → List ℕ → Type 0
 SetsWhole old new temporary bytes = (mid : Facts) × (third : Facts) × IsWritten old mid temporary bytes × IsRenamed mid third temporary × IsCurrentSynced third new
 
--- The device keeps it, and then this is so; or it was refused.
+-- It is synced, and then this is so; or that failed.
 abbrev pub SyncsThen : Facts → Facts → (Facts → Type 0) → Type 0
 SyncsThen old new next = Idles old new ⊎ ((last : Facts) × IsCurrentSynced old last × next last)
 
@@ -88,7 +88,7 @@ pub record RenewsFound (order : Order) (old new : Facts) : Type 0 where
 abbrev pub RenewsBy : Order → Facts → Facts → Type 0
 RenewsBy order old new = Idles old new ⊎ RenewsFound order old new
 
--- One that is accepted does all of it, and has the numbers of what it wrote.
+-- One that succeeds does all of it, and has the numbers of what it wrote.
 pub record RenewsWhole (order : Order) (old new : Facts) (log : CurrentLog) (state : DirectoryState) : Type 0 where
   pub found : Found
   pub rewrite : Rewrite

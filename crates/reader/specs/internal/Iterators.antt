@@ -24,7 +24,7 @@ pub record IsWalk {K : Type 0} {g : _} (cmp : List ℕ → List ℕ → Ordering
   pub limits : limited ≡ false → IsOnePastLimit cmp (tables_of iterator) whole → ⊥
   pub tables : (number : ℕ) → reads_table iterator number → ListsNumber (tables_of iterator) number × IsNumbered number × IsSome (table_at whole.seen.facts.files number)
 
--- So it is as far as the blocks of its tables tell: it goes over such pairs as they may have.
+-- The same holds as far as the blocks of its tables tell: it goes over such pairs as they may have.
 pub record MayBeWalk {K : Type 0} {g : _} (cmp : List ℕ → List ℕ → Ordering) (whole : Whole) (iterator : Scan K g) (walk : Walk) : Type 0 where
   pub bound : iterator.walk.sequence ≤ whole.memory.last
   pub scan : MayBeScan cmp iterator whole (walked_of walk)

@@ -18,7 +18,7 @@ use Rattle.version_laws.specs.Places.{MayHaveVersion, table_sources}
 use Rattle.db_cursor.specs.Whole.{Whole}
 
 -- The files are a consistent directory, whose tables these are, and whose logs' entries are in
--- memory; what is kept of its tables is right; and this is what all its entries put, up to the last
+-- memory. What is kept of its tables is right. And this is what all its entries put, up to the last
 -- sequence number used.
 pub record Shows (order : Order) (whole : Whole) (tables : List PlacedTable) (map : Contents) : Type 0 where
   pub directory : Directory
@@ -30,8 +30,8 @@ pub record Shows (order : Order) (whole : Whole) (tables : List PlacedTable) (ma
   pub last : whole.memory.last ≡ used_in directory
   pub view : IsView (entries_in directory) (used_in directory) map
 
--- As far as their blocks tell, the files may be tables of these, than which what is in memory is
--- newer; what is kept of them is right; and this is what the entries that they may have, and those
+-- As far as their blocks tell, the files may be tables of these; what is in memory is newer than
+-- they. What is kept of them is right. And this is what the entries that they may have, and those
 -- in memory, put up to the last sequence number used.
 pub record MayShow (order : Order) (whole : Whole) (tables : List PlacedTable) (map : Contents) : Type 0 where
   pub contents : List TableContent

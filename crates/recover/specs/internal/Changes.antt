@@ -32,7 +32,7 @@ use Rattle.recover.specs.Replacing.{AreDistinct, AreParted, MayReplace}
 
 -- ---- the last log
 
--- the same parts, but for these entries behind those of the last log
+-- the same parts, but for these entries after those of the last log
 pub record IsExtended (d e : Directory) (more : List Entry) : Type 0 where
   pub before : List LogContent
   pub last : LogContent
@@ -42,8 +42,8 @@ pub record IsExtended (d e : Directory) (more : List Entry) : Type 0 where
   pub number : next.number ≡ last.number
   pub entries : batch_entries next.batches ≡ batch_entries last.batches ++ more
 
--- A whole record for the next batch behind the last log adds its entries there, and changes no
--- other part.
+-- A whole record for the next batch after the last log adds its entries there, and changes no other
+-- part.
 abbrev pub ExtendLaw : Type 0
 ExtendLaw = (order : Order) (files : Files) (d : Directory) (log position : ℕ) (operations : List Operation) (payload added before : List ℕ)
     → IsConsistent order files d → EndsAt files d log position → get files (name_of (Log log)) ≡ Some before
@@ -65,7 +65,7 @@ FailedExtendLaw = (order : Order) (files : Files) (d : Directory) (log position 
 abbrev pub empty_log : ℕ → LogContent
 empty_log number = record { number = number; batches = []; tail = Clean }
 
--- the same parts, and such a log behind the others
+-- the same parts, and such a log after the others
 abbrev pub with_log : Directory → ℕ → Directory
 with_log d number = record d { logs = d.logs ++ empty_log number ∷ [] }
 
@@ -80,13 +80,13 @@ BeginLogLaw = (order : Order) (files : Files) (d : Directory) (number : ℕ)
 
 -- ---- the MANIFEST
 
--- the current MANIFEST, which ends clean at this position, so that an edit can be put behind it
+-- the current MANIFEST, which ends clean at this position, so that an edit can be put after it
 pub record ManifestEndsAt (order : Order) (files : Files) (number position : ℕ) (edits : List (List Field)) (layout : Layout) : Type 0 where
   pub manifest : HasManifest order files number edits layout
   pub clean : manifest.spelled.tail ≡ Clean
   pub length : length manifest.bytes ≡ position
 
--- The record of an edit behind it adds the edit.
+-- The record of an edit after it adds the edit.
 abbrev pub EditLaw : Type 0
 EditLaw = (order : Order) (files : Files) (number position : ℕ) (edits : List (List Field)) (layout next : Layout) (edit : List Field) (payload added before : List ℕ)
     → ManifestEndsAt order files number position edits layout → get files (name_of (Manifest number)) ≡ Some before
@@ -106,7 +106,7 @@ pub record AgreeBeside (old new : Files) (d : Directory) : Type 0 where
   pub logs : (n : ℕ) → IsNumbered n → IsLive d.layout n → get new (name_of (Log n)) ≡ get old (name_of (Log n))
   pub tables : (content : TableContent) → InTables d.tables content → table_at new content.placed.table.number ≡ table_at old content.placed.table.number
 
--- Where the MANIFEST says the same as before, so do these parts, however the bytes end behind its
+-- Where the MANIFEST says the same as before, these parts do too, however the bytes end after its
 -- edits.
 abbrev pub SameManifestLaw : Type 0
 SameManifestLaw = (order : Order) (old new : Files) (d : Directory) → IsConsistent order old d
@@ -119,9 +119,9 @@ abbrev pub with_content : TableContent → List TableContent → List TableConte
 with_content new [] = new ∷ []
 with_content new (content ∷ contents) = if is_before new.placed content.placed then new ∷ content ∷ contents else content ∷ with_content new contents
 
--- The layout is that of a flush: what was logged before the current log is in a new table of level
--- 0 instead, whose number is above those of all tables, and the log number is the current log's.
--- All used sequence numbers are recorded.
+-- The layout is that of a flush. What was logged before the current log is in a new table of level
+-- 0 instead, whose number is above those of all tables. The log number is the current log's, and
+-- all used sequence numbers are recorded.
 pub record IsFlush (d : Directory) (next : Layout) (content : TableContent) (sealed : List LogContent) (current : LogContent) : Type 0 where
   pub logs : d.logs ≡ sealed ++ current ∷ []
   pub entries : SameEntries content.entries (logged sealed)
@@ -146,7 +146,7 @@ FlushLaw = (order : Order) (old new : Files) (d : Directory) (edits : List (List
 
 -- ---- a compaction
 
--- The layout is that of a compaction: in place of the inputs are outputs of a level from 1 on, in
+-- The layout is that of a compaction: instead of the inputs are outputs of a level from 1 on, in
 -- order, with none but entries of the inputs. All used sequence numbers are recorded.
 pub record IsCompaction (order : Order) (d : Directory) (next : Layout) (inputs rest outputs contents : List TableContent) (level : ℕ) : Type 0 where
   pub old_tables : AreParted d.tables inputs rest
@@ -165,7 +165,7 @@ pub record IsCompaction (order : Order) (d : Directory) (next : Layout) (inputs 
 abbrev pub compacted : Directory → List (List Field) → Layout → List TableContent → Directory
 compacted d edits next contents = record { manifest = d.manifest; edits = edits; layout = next; tables = contents; logs = d.logs }
 
--- A compaction leaves a consistent directory, with the outputs' entries in place of the inputs'.
+-- A compaction leaves a consistent directory, with the outputs' entries instead of the inputs'.
 abbrev pub CompactionLaw : Type 0
 CompactionLaw = (order : Order) (old new : Files) (d : Directory) (edits : List (List Field)) (next : Layout) (inputs rest outputs contents : List TableContent) (level : ℕ)
     → IsConsistent order old d → HasManifest order new d.manifest edits next → AgreeBeside old new d
@@ -198,10 +198,10 @@ abbrev pub ClosedLaw : Type 0
 ClosedLaw = (order : Order) (files : Files) (d : Directory) (inputs rest : List TableContent) (level : ℕ) → IsTotalOrder order.cmp
     → IsConsistent order files d → AreParted d.tables inputs rest → AreClosedInputs order inputs rest level → MayReplace order inputs rest (level + 1)
 
--- ---- files that aren't live
+-- ---- obsolete files
 
--- A directory of these parts reads no file of this name: it is neither `CURRENT` nor its MANIFEST
--- nor a live log, and if it is the older name of a table, the table is there under the newer one.
+-- A directory of these parts reads no file of this name. It is neither `CURRENT` nor its MANIFEST
+-- nor a log in use, and if it is the older name of a table, the table is there under the newer one.
 pub record IsUnread (files : Files) (d : Directory) (name : List ℕ) : Type 0 where
   pub current : name ≢ name_of Current
   pub manifest : name ≢ name_of (Manifest d.manifest)

@@ -41,7 +41,7 @@ IsSpanned table pairs = (first_key pairs ≡ Some table.smallest) × (last_key p
 abbrev pub content_of : PlacedTable → List Entry → TableContent
 content_of placed entries = record { placed = placed; entries = entries }
 
--- so is it of no bytes
+-- the same of no bytes
 abbrev pub Never : List ℕ → Type 0
 Never bytes = ⊥
 

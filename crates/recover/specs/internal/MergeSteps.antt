@@ -72,7 +72,7 @@ IsMid order files against merge =
 abbrev pub StandsMid : {K : Type 0} → Order → Facts → Facts → Against → Merge K → Type 0
 StandsMid order old now against merge = IsTrue now.faithful → IsMid order old.files against merge
 
--- so they are behind some steps, of which none has failed
+-- so they are after some steps, of which none has failed
 pub record HoldsMerge {K : Type 0} (order : Order) (against : Against) (old now : Facts) (merge : Merge K) : Type 0 where
   pub store : IsUnchanged old now
   pub still : now.failures ≡ old.failures
@@ -104,11 +104,11 @@ RefusesMerge e order old new against =
 abbrev pub CanBegin : List PlacedTable → List Bool → ℕ → Type 0
 CanBegin tables begun place = (placed : PlacedTable) × (slice_get tables place ≡ Some placed) × (slice_get begun place ≡ Some false)
 
--- none that waits begins in front of this entry
+-- none that waits begins before this entry
 abbrev pub AllBeginBehind : Order → List PlacedTable → List Bool → Entry → Type 0
 AllBeginBehind order tables begun entry = (place : ℕ) (key : Key) → DoesWait tables begun place key → ComesBefore order (stamp key.user key.sequence) entry → ⊥
 
--- nor in front of this key; where there is no key none waits
+-- nor before this key; where there is no key none waits
 abbrev pub AllBeginFrom : Order → List PlacedTable → List Bool → Option InternalKey → Type 0
 AllBeginFrom order tables begun None = (place : ℕ) (key : Key) → DoesWait tables begun place key → ⊥
 AllBeginFrom order tables begun (Some key) = AllBeginBehind order tables begun (stamp key.user.now key.sequence)
@@ -118,7 +118,7 @@ abbrev pub HasEnded : {K : Type 0} → Option InternalKey → List (Lane K) → 
 HasEnded {K} None lanes = (i : ℕ) (lane : Lane K) → slice_get lanes i ≡ Some lane → lane.stands ≡ true → ⊥
 HasEnded {K} (Some key) lanes = Unit {0}
 
--- none that waits begins in front of the entry of this lane
+-- none that waits begins before the entry of this lane
 abbrev pub IsNext : {K : Type 0} → Order → List PlacedTable → Merge K → ℕ → Type 0
 IsNext {K} order tables merge index =
     (lane : Lane K) → slice_get merge.lanes.items index ≡ Some lane → AllBeginBehind order tables merge.begun.items (stamp lane.walk.head.user.items lane.walk.head.sequence)

@@ -44,12 +44,12 @@ MayFollow a b = a.entry.key ≡ b.entry.key → (b.entry.sequence < a.entry.sequ
 abbrev pub IsBroken : Came → Came → Type 0
 IsBroken a b = (a.entry.key ≡ b.entry.key) × ((b.entry.sequence < a.entry.sequence) × IsNoNewer a.level a.place b.level b.place → ⊥)
 
--- the second comes behind the first: its key does, or it is of the same key and may follow
+-- the second comes after the first: its key does, or it is of the same key and may follow
 abbrev pub ComesBehind : Order → Came → Came → Type 0
 ComesBehind order a b =
     (order.cmp a.entry.key b.entry.key ≡ Less) ⊎ ((a.entry.key ≡ b.entry.key) × ((b.entry.sequence < a.entry.sequence) × IsNoNewer a.level a.place b.level b.place))
 
--- what came, the last first: each behind all that came before it
+-- what came, the last first: each after all that came before it
 abbrev pub HaveCome : Order → List Came → Type 0
 HaveCome order [] = Unit {0}
 HaveCome order (last ∷ before) = ((a : Came) → Among before a → ComesBehind order a last) × HaveCome order before
@@ -71,14 +71,14 @@ pub record WasMerged (order : Order) (files : Files) (came : List Came) (place :
   pub has : HasTable order files (content_of placed entries)
   pub come : (entry : Entry) → Among entries entry → Among came (record { place = place; level = placed.level; entry = entry })
 
--- no table stands behind one of a deeper level
+-- no table stands after one of a deeper level
 abbrev pub AreByLevel : List PlacedTable → Type 0
 AreByLevel [] = Unit {0}
 AreByLevel (placed ∷ tables) = AllByRecursion (λ (other : PlacedTable). placed.level ≤ other.level) tables × AreByLevel tables
 
 -- ---- tables in the middle of their reading
 
--- the entry at hand comes in front of the other
+-- the entry at hand comes before the other
 abbrev pub IsHeadBefore : Order → Head → Head → Type 0
 IsHeadBefore order a b = ComesBefore order (stamp a.user.items a.sequence) (stamp b.user.items b.sequence)
 
@@ -87,7 +87,7 @@ abbrev pub IsLast : Last → List Came → Type 0
 IsLast last [] = last.some ≡ false
 IsLast last (c ∷ before) = (last.some ≡ true) × IsHead last.head c.entry × (c.place ≡ last.place) × (c.level ≡ last.level)
 
--- what an entry of this key and sequence number doesn't stand in front of, if it is there
+-- what an entry of this key and sequence number doesn't stand before, if it is there
 abbrev pub IsNotBefore : Order → Last → Entry → Type 0
 IsNotBefore order last entry = last.some ≡ true → ComesBefore order entry (stamp last.head.user.items last.head.sequence) → ⊥
 
@@ -133,15 +133,14 @@ pub record IsMerging {K : Type 0} (order : Order) (files : Files) (logged : List
 -- ---- which entry comes next
 
 -- of the first lanes, so many, none stands; or the one at this index stands, and none that does
--- comes in front of it
+-- comes before it
 abbrev pub IsLeastOf : {K : Type 0} → Order → List (Lane K) → ℕ → Option ℕ → Type 0
 IsLeastOf {K} order lanes count None = (i : ℕ) (lane : Lane K) → i < count → slice_get lanes i ≡ Some lane → lane.stands ≡ true → ⊥
 IsLeastOf {K} order lanes count (Some at) =
     (lane : Lane K) × (slice_get lanes at ≡ Some lane) × (lane.stands ≡ true)
     × ((j : ℕ) (other : Lane K) → j < count → slice_get lanes j ≡ Some other → other.stands ≡ true → IsHeadBefore order other.walk.head lane.walk.head → ⊥)
 
--- behind the last entry, in front of which it doesn't stand, the one at which the lane stands may
--- come
+-- after the last entry, before which it doesn't stand, the one at which the lane stands may come
 abbrev pub MayComeNext : {K : Type 0} → Last → Lane K → Type 0
 MayComeNext last lane = last.some ≡ true → last.head.user.items ≡ lane.walk.head.user.items
     → (lane.walk.head.sequence < last.head.sequence) × IsNoNewer last.level last.place lane.level lane.place
@@ -208,7 +207,7 @@ abbrev pub DoesWait : List PlacedTable → List Bool → ℕ → Key → Type 0
 DoesWait tables begun place key =
     (placed : PlacedTable) × (slice_get tables place ≡ Some placed) × (slice_get begun place ≡ Some false) × IsKey placed.table.smallest key
 
--- the key at hand comes in front of the bound, if there is one
+-- the key at hand comes before the bound, if there is one
 abbrev pub IsWithin : Order → Head → Option InternalKey → Type 0
 IsWithin order head None = Unit {0}
 IsWithin order head (Some key) = ComesBefore order (stamp head.user.items head.sequence) (stamp key.user.now key.sequence)
@@ -220,7 +219,8 @@ abbrev pub IsNotOldEntry : List Entry → List ℕ → ℕ → Type 0
 IsNotOldEntry entries key sequence = (l : Entry) × Among entries l × (l.key ≡ key) × (l.sequence ≤ sequence)
 
 -- The entry at which the lane stands is newer than the recorded sequence number, or not older than
--- what is logged of its key, or breaks the row; and each is refused by an error of its own.
+-- what is logged of its key, or breaks the order of the entries. Each is refused by an error of its
+-- own.
 abbrev pub Misplaces : {K : Type 0} → List Entry → ℕ → Last → Lane K → DbError → Type 0
 Misplaces entries recorded last lane error =
     ((error ≡ Corrupt file.Table damage.Number) × (recorded < lane.walk.head.sequence))

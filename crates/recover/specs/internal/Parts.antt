@@ -94,7 +94,7 @@ SaysManifest order files manifest = (number : ℕ) × (edits : List (List Field)
 
 -- ---- the logs
 
--- the log of this number is live, where there are logs from number 1 on
+-- the log of this number is in use, where there are logs from number 1 on
 abbrev pub is_live : Layout → ℕ → Bool
 is_live layout n = nat_lt 0 n && (nat_le layout.log_number n || n == layout.previous_log_number)
 

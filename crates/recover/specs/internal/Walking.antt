@@ -43,11 +43,11 @@ IsHere block at = (block.place ≡ Some at) × (at < length block.pairs)
 abbrev pub IsPairAt : Placed → ℕ → Pair → Type 0
 IsPairAt block at pair = (block.place ≡ Some at) × (slice_get block.pairs at ≡ Some pair)
 
--- a pair stands behind it
+-- a pair stands after it
 abbrev pub HasMore : Placed → Type 0
 HasMore block = (at : ℕ) × (block.place ≡ Some at) × (at + 1 < length block.pairs)
 
--- none stands behind it
+-- none stands after it
 abbrev pub HasNoMore : Placed → Type 0
 HasNoMore block = (at : ℕ) → block.place ≡ Some at → length block.pairs ≤ at + 1
 

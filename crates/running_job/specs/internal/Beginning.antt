@@ -24,8 +24,8 @@ use Rattle.directory_writes.specs.Replacing.{placed_in}
 use Rattle.versions.specs.declared.plan.JobPlan.{JobPlan}
 use Rattle.versions.specs.Levels.{ListsSameTables}
 
--- The files are this directory, whose tables the version lists; what is kept of tables is right,
--- and nothing is kept of one that is still to come; no number from `next` on is taken.
+-- The files are this directory, whose tables the version lists. What is kept of tables is right,
+-- and nothing is kept of one that is still to come. No number from `next` on is taken.
 pub record CanBegin (order : Order) (whole : Whole) (next : ℕ) (tables : List PlacedTable) (d : Directory) : Type 0 where
   pub consistent : IsConsistent order whole.seen.facts.files d
   pub listed : ListsSameTables (placed_in d.tables) tables
@@ -33,7 +33,7 @@ pub record CanBegin (order : Order) (whole : Whole) (next : ℕ) (tables : List 
   pub unkept : AreDisjoint (KeepsOf whole.seen) (IsToCome next)
   pub free : IsFree order whole.seen.facts.files next
 
--- As far as their blocks tell, the files may be the inputs of the plan, with these contents; what
+-- As far as their blocks tell, the files may be the inputs of the plan, with these contents. What
 -- is kept of tables is right, and nothing is kept of one that is still to come.
 pub record MayBegin (order : Order) (whole : Whole) (next : ℕ) (plan : JobPlan) (contents : List TableContent) : Type 0 where
   pub sound : IsSound order.cmp whole.seen
@@ -51,9 +51,9 @@ abbrev pub BeginsJob : {K : Type 0} {g : _} → Order → List PlacedTable → W
 BeginsJob order tables old new work = IsTrue new.seen.facts.faithful → (next : ℕ) (d : Directory) → CanBegin order old next tables d
     → (left : List InternalEntry) × IsRunning order new next d work [] left
 
--- Why it isn't begun: out of memory, while no call of the store failed; since the store failed;
--- never as Corrupt over such a directory; and as Unsupported only where the file of an input passes
--- a limit of reading.
+-- Why it isn't begun: out of memory, while no call of the store failed, or since the store failed.
+-- Never as Corrupt over such a directory. As Unsupported only if the file of an input passes a
+-- limit of reading.
 abbrev pub RefusesBegin : Order → List PlacedTable → JobPlan → Whole → Whole → DbError → Type 0
 RefusesBegin order tables plan old new e = RefusesEntry e old.seen.facts new.seen.facts
     (IsTrue new.seen.facts.faithful → (next : ℕ) (d : Directory) → CanBegin order old next tables d → ⊥)

@@ -35,20 +35,20 @@ EndLeaves order old new next last_sequence manifest tables work result =
     IsTrue new.faithful → (whole : Whole) (d : Directory) (came : List InternalEntry) → whole.seen.facts ≡ old → (can : CanEnd order whole next last_sequence manifest tables d work came)
     → InstallMeans order (deep_of order.cmp work) work.job old.files new.files next manifest tables came d can.running.inputs can.running.rest result
 
--- A stop in its middle leaves what a failure of the device at the edit does.
+-- A process crash in its middle leaves what a failure of the store at the edit does.
 abbrev pub EndMayLeave : {K : Type 0} {g : _} → Order → Facts → ℕ → ℕ → CurrentManifest → List PlacedTable → OpenJob K g → Files → Type 0
 EndMayLeave order old next last_sequence manifest tables work new =
     (whole : Whole) (d : Directory) (came : List InternalEntry) → whole.seen.facts ≡ old → (can : CanEnd order whole next last_sequence manifest tables d work came)
     → MayBeInstalled order (deep_of order.cmp work) work.job.plan.output_level work.job.selection.snapshots old.files new next came d can.running.inputs can.running.rest
 
--- And each table of what a stop leaves was there before, or is one that the job wrote.
+-- And each table of what a process crash leaves was there before, or is one that the job wrote.
 abbrev pub EndMayPutOwn : {K : Type 0} {g : _} → Order → Facts → ℕ → ℕ → CurrentManifest → List PlacedTable → OpenJob K g → Files → Type 0
 EndMayPutOwn order old next last_sequence manifest tables work new =
     (whole : Whole) (d : Directory) (came : List InternalEntry) → whole.seen.facts ≡ old → CanEnd order whole next last_sequence manifest tables d work came → PutsOwn order work.job.outputs new d
 
--- Why it isn't ended: out of memory, while no call of the store failed; since the store failed;
--- never as Corrupt over such a directory; as Unsupported only where the inputs' entries are large;
--- or where numbers are above 2^62.
+-- Why it isn't ended: out of memory, while no call of the store failed; since the store failed; or
+-- because numbers are above 2^62. Never as Corrupt over such a directory. As Unsupported only if
+-- the inputs' entries are large.
 abbrev pub RefusesEnd : {K : Type 0} {g : _} → Order → Facts → Facts → ℕ → ℕ → CurrentManifest → List PlacedTable → OpenJob K g → FlushError → Type 0
 RefusesEnd order old new next last_sequence manifest tables work (Before e) = RefusesEntry e old new
     (IsTrue new.faithful → (whole : Whole) (d : Directory) (came : List InternalEntry) → whole.seen.facts ≡ old → CanEnd order whole next last_sequence manifest tables d work came → ⊥)
@@ -59,7 +59,7 @@ RefusesEnd order old new next last_sequence manifest tables work Edit = old.fail
 -- ---- over each directory that differs in tables alone
 
 -- All entries of these inputs came to the job, which may be replaced by tables of its level, and
--- what is needed of them is written; no table of the directory has a number that is the job's.
+-- what is needed of them is written. No table of the directory has a number that is the job's.
 pub record HasMergedAll {K : Type 0} {g : _} (order : Order) (facts : Facts) (next : ℕ) (d : Directory) (work : OpenJob K g) (came : List InternalEntry) (inputs rest : List TableContent) : Type 0 where
   pub planned : IsPlanned order (deep_of order.cmp work) work.job.plan d.tables inputs rest
   pub entries : SameEntries (map entry_of came) (tabled inputs)
@@ -67,8 +67,8 @@ pub record HasMergedAll {K : Type 0} {g : _} (order : Order) (facts : Facts) (ne
   pub drawn : work.next ≤ next
   pub unused : OwnsNone work.job.outputs d.layout.tables.items
 
--- So it is with a job that has ended over the files, of a directory that is served by these parts,
--- in which the job's tables have the same files.
+-- The same holds for a job that has ended over the files, of a directory that is served by these
+-- parts, in which the job's tables have the same files.
 pub record CanEndOver {K : Type 0} {g : _} (order : Order) (facts : Facts) (ideal : Files) (next last_sequence : ℕ) (manifest : CurrentManifest) (tables : List PlacedTable) (d : Directory) (work : OpenJob K g) (came : List InternalEntry)
     (inputs rest : List TableContent) : Type 0 where
   pub served : IsServed order ideal next manifest tables d
@@ -82,15 +82,15 @@ EndLeavesOver order old new ideal after next last_sequence manifest tables work 
     IsTrue new.faithful → (d : Directory) (came : List InternalEntry) (inputs rest : List TableContent) → CanEndOver order old ideal next last_sequence manifest tables d work came inputs rest
     → InstallMeans order (deep_of order.cmp work) work.job ideal after next manifest tables came d inputs rest result
 
--- Where the device failed at the edit, each table of what is left is one of before, or one that the
--- job wrote, whose file is there.
+-- If the store failed at the edit, each table of what is left is one of before, or one that the job
+-- wrote, whose file is there.
 abbrev pub EndPutsOwn : {K : Type 0} {g : _} → Order → Facts → Facts → Files → Files → ℕ → ℕ → CurrentManifest → List PlacedTable → OpenJob K g → Result (Installed K) FlushError → Type 0
 EndPutsOwn order old new ideal after next last_sequence manifest tables work result =
     result ≡ Err Edit → IsTrue new.faithful → (d : Directory) (came : List InternalEntry) (inputs rest : List TableContent) → CanEndOver order old ideal next last_sequence manifest tables d work came inputs rest
     → (e : Directory) → IsConsistent order after e → (placed : PlacedTable) → Contains e.layout.tables.items placed
     → Contains d.layout.tables.items placed ⊎ (IsOwn work.job.outputs placed.table.number × ((file : List ℕ) × (get new.files (table_name placed.table.number) ≡ Some file)))
 
--- And a stop in its middle leaves what a failure of the device at the edit does.
+-- And a process crash in its middle leaves what a failure of the store at the edit does.
 abbrev pub EndMayLeaveOver : {K : Type 0} {g : _} → Order → Facts → Files → Files → ℕ → ℕ → CurrentManifest → List PlacedTable → OpenJob K g → Type 0
 EndMayLeaveOver order old ideal after next last_sequence manifest tables work =
     (d : Directory) (came : List InternalEntry) (inputs rest : List TableContent) → CanEndOver order old ideal next last_sequence manifest tables d work came inputs rest

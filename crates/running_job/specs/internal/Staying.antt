@@ -27,7 +27,7 @@ LeavesWhole old new name =
 abbrev pub KeepsOutputs : TablesWritten → Facts → Facts → Type 0
 KeepsOutputs w old new = (number : ℕ) → IsOwn w number → LeavesWhole old new (table_name number)
 
--- The files of the job's tables are as they were, of inputs and outputs; what is kept of tables is
+-- The files of the job's tables are as they were, of inputs and outputs. What is kept of tables is
 -- right where it was, and nothing is kept of a table that the job writes. Numbers may have been
 -- drawn, and tables put in beside the inputs, none of which is the job's.
 pub record LeavesJob {K : Type 0} {g : _} (order : Order) (work : OpenJob K g) (inputs : List TableContent) (old new : Whole) (next more : ℕ) (e : Directory) : Type 0 where

@@ -22,8 +22,8 @@ use Rattle.directory_writes.specs.internal.JobWrites.{KeepsOtherTables}
 
 -- ---- over any store
 
--- It writes tables of numbers that are the job's, and no others; the memtables stay, and what
--- it keeps anew of tables is of those that its cursor goes over, which are those of before.
+-- It writes tables of numbers that are the job's, and no others. The memtables stay, and what it
+-- keeps anew of tables is of those that its cursor goes over, which are those of before.
 pub record StepTouches {K : Type 0} {g : _} (old new : Whole) (next more : ℕ) (before after : OpenJob K g) : Type 0 where
   pub writes : WritesTables old.seen.facts new.seen.facts (IsMineUpTo before.job.outputs next more)
   pub memory : LeavesMemories old.memory new.memory
@@ -47,7 +47,7 @@ abbrev pub KeepsSound : {K : Type 0} {g : _} → Order → Whole → Whole → �
 KeepsSound order old new next before = IsTrue new.seen.facts.faithful → (contents : List TableContent) (came left : List InternalEntry)
     → MayRun order old next contents before came left → IsSound order.cmp old.seen → IsSound order.cmp new.seen
 
--- A stop in its middle leaves the directory, too.
+-- A process crash in its middle leaves the directory, too.
 abbrev pub StepStops : {K : Type 0} {g : _} → Order → Whole → Whole → ℕ → OpenJob K g → Type 0
 StepStops order old new next before = IsTrue new.seen.facts.faithful → (d : Directory) (came left : List InternalEntry)
     → CanStep order old next d before came left → LeavesOnly old.seen.facts new.seen.facts (λ files. IsConsistent order files d)
@@ -67,9 +67,9 @@ MayGoOn order old new next more budget before after progress = IsTrue new.seen.f
     → (front : List InternalEntry) × (back : List InternalEntry) × (left ≡ front ++ back) × IsStepOf budget progress front back
     × MayRun order new more contents after (came ++ front) back
 
--- Why it doesn't: out of memory, while no call of the store failed; since the store failed; never
--- as Corrupt; as Unsupported only where the file of an input passes a limit of reading, or the
--- inputs' entries are large; or since no number is left.
+-- Why it doesn't: out of memory, while no call of the store failed; since the store failed; or
+-- since no number is left. Never as Corrupt. As Unsupported only if the file of an input passes a
+-- limit of reading, or the inputs' entries are large.
 abbrev pub RefusesStep : {K : Type 0} {g : _} → Order → Whole → Whole → ℕ → ℕ → OpenJob K g → DbError → Type 0
 RefusesStep order old new next more before e = RefusesEntry e old.seen.facts new.seen.facts
     (IsTrue new.seen.facts.faithful → (d : Directory) (came left : List InternalEntry) → CanStep order old next d before came left → ⊥)

@@ -3,7 +3,7 @@ use Rattle.std.specs.List.{slice_get}
 use Rattle.block.specs.Spots.{HasRestarts, StartsBelow, StartsNotBelow}
 use Rattle.block.proofs.block_cursor.restart_below.Given as goal
 
--- the keys in front of the restart `low` are below the target, and the key at `high` isn't
+-- the keys before the restart `low` are below the target, and the key at `high` isn't
 abbrev pub invariant-loop-low : goal.invariant-loop-low
 invariant-loop-low g l = record {
   ordered : l.low < l.high;

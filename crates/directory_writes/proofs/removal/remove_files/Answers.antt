@@ -245,7 +245,7 @@ returns-clause-stops_each g c f =
     removed_each c.args.numbers.now in_use old mid (c.in_ok-names.ensures.store.calls early) (c.in_ok-names.ensures.store.same early) c.free_change_law.ensures (live both)
     (λ file is. (same_live c.args.numbers.now in_use old.files both (knows g c early) file is).1) new (subst B c.deref-7.ensures.value (c.remove_listed-complete.ensures.stops f))
 
--- ---- which files it takes away
+-- ---- which files it removes
 
 pub returns-in_err-names-clause-only : goal.returns-in_err-names-clause-only
 returns-in_err-names-clause-only g c f =

@@ -69,7 +69,7 @@ returns-clause-over_damage g c =
     ))
     c.run-result.ensures.run
 
--- ---- what a stop leaves
+-- ---- what a process crash leaves
 
 -- a close calls nothing that changes a file
 closes_calls : {K : Type 0} {g : _} (o : Option (OpenDb K g)) (old new : Facts) → CloseTouches o old new → IsTrue new.faithful → (new.calls ≡ old.calls) × (new.files ≡ old.files)
@@ -96,7 +96,7 @@ returns-clause-stops g c =
     ))
     c.run-result.ensures.each
 
--- ---- what a loss of power leaves
+-- ---- what a power loss leaves
 
 closes_synced : {K : Type 0} {g : _} (o : Option (OpenDb K g)) (old new : Facts) → CloseTouches o old new → IsTrue new.faithful → new.synced ≡ old.synced
 closes_synced None old new touches f = touches.synced f

@@ -53,7 +53,7 @@ returns-in_err-state-clause-loses g c f ids m undamaged r =
 pub returns-in_err-state-clause-loses_on : goal.returns-in_err-state-clause-loses_on
 returns-in_err-state-clause-loses_on g c f ids m undamaged r = c.in_err-state.ensures.loses_on f
 
--- ---- behind the syncs of the logs in front, accepted or not
+-- ---- after the syncs of the logs in front, whether they succeed or not
 
 abbrev old_in : (g : Over) → After-keep_front g → Facts
 old_in g c = g.S.Store.facts c.args.source.now.tables.store
@@ -147,7 +147,7 @@ returns-then-is_err-clause-loses_on g c f ids m undamaged r =
     let behind = (goal.at.returns-then-is_err-clause-loses_on g c).After-keep_front in
     on_in g behind f m (means_whole (order_of g.K.KeyOrder.name g.K.KeyOrder.cmp) (old_in g behind).files m undamaged r.rest)
 
--- ---- all of them were accepted
+-- ---- all of them succeeded
 
 syncs_in : (g : Over) (c : After-keep_front g) → is_err c.keep_front.result ≡ false → SyncsFront (map string_bytes c.in_ok-state.state.log.front.items) (mid_in g c) (kept_in g c) (Ok tt)
 syncs_in g c test =

@@ -85,7 +85,7 @@ returns-in_err-begin-clause-continued_each g c = λ f.
     let old = g.S.Store.facts c.args.source.now.tables.store in
     subst (λ s. OfEach (λ whole after. IsContinued order whole after) old.files (g.S.Store.facts s).files) (sym c.in_err-begin.ensures.store) (unwritten_each order old.files old.files refl)
 
--- ---- what a stop leaves
+-- ---- what a process crash leaves
 
 pub returns-in_err-begin-clause-stops : goal.returns-in_err-begin-clause-stops
 returns-in_err-begin-clause-stops g c f m means =
@@ -109,7 +109,7 @@ returns-clause-stops g c f m means =
     subst (λ s. MeansAccepted order (g.S.Store.facts s).files m → LeavesOnly (g.S.Store.facts s) new (λ files. MeansAccepted order files m)) c.in_ok-begin.ensures.store
     (λ there. continued_keeps order mid new m there (c.in_ok-begun.ensures.stops f)) means
 
--- ---- what a loss of power leaves
+-- ---- what a power loss leaves
 
 pub returns-in_err-begin-clause-loses : goal.returns-in_err-begin-clause-loses
 returns-in_err-begin-clause-loses g c f m means stays =
@@ -162,7 +162,7 @@ returns-in_err-begun-clause-durable g c =
     subst (λ (r : Result (DbState _ _) DbError). LeavesDurable (g.S.Store.facts c.args.source.now.tables.store) new r) (sym is)
     (record { ok = λ f. tt; err = λ f. subst (λ s. LeavesFile (g.S.Store.facts s) new (name_of Current) ⊎ IsDurable new) c.in_ok-begin.ensures.store (c.in_err-begun.ensures.durable.err f) })
 
--- ---- behind other calls of the same store
+-- ---- after other calls of the same store
 
 pub returns-in_err-begin-clause-loses_on : goal.returns-in_err-begin-clause-loses_on
 returns-in_err-begin-clause-loses_on g c f =

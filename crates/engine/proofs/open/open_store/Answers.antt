@@ -82,7 +82,7 @@ returns-in-Err-clause-touches g c =
     c.in_ok-take_lock.ensures.lock c.in-Err.ensures.outcome.failures (λ is. c.in-Err.ensures.outcome.io (λ i. Err (is i))) (c.in-Err.ensures.step no_ids).faithful c.in-Err.ensures.durable c.in-Err.ensures.spared
     c.unlock.ensures.counts c.unlock.ensures.same c.unlock.ensures.synced c.unlock.ensures.free c.unlock.ensures.missing c.unlock.ensures.memory
 
--- ---- what a stop leaves
+-- ---- what a process crash leaves
 
 pub returns-in_err-take_lock-clause-stops : goal.returns-in_err-take_lock-clause-stops
 returns-in_err-take_lock-clause-stops g c f ids m undamaged s =
@@ -110,7 +110,7 @@ returns-in-Err-clause-stops g c f ids m undamaged s =
     (leaves_both old mid new (λ files. MeansAccepted order files m) (lock_keeps order old mid m c.free_change_law.ensures undamaged s (c.in_ok-take_lock.ensures.stops h))
     (c.in-Err.ensures.stops k ids m undamaged (locked order old mid m c.free_change_law.ensures c.in_ok-take_lock.ensures.lock h s)))
 
--- ---- what a loss of power leaves
+-- ---- what a power loss leaves
 
 pub returns-in_err-take_lock-clause-loses : goal.returns-in_err-take_lock-clause-loses
 returns-in_err-take_lock-clause-loses g c f ids m undamaged s stays =
@@ -145,7 +145,7 @@ returns-in-Err-clause-loses g c f ids m undamaged s stays =
     new (g.S.Store.facts c.unlock.new.self) (λ files. MeansAccepted order files m) (c.in-Err.ensures.stops k ids m undamaged rests) (c.in-Err.ensures.loses k ids m undamaged rests)
     (c.unlock.ensures.calls f) (c.unlock.ensures.same f) (c.unlock.ensures.synced f)
 
--- ---- behind other calls of the same store
+-- ---- after other calls of the same store
 
 pub returns-in_err-take_lock-clause-loses_on : goal.returns-in_err-take_lock-clause-loses_on
 returns-in_err-take_lock-clause-loses_on g c ids f there m undamaged s =

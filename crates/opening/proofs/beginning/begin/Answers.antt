@@ -153,7 +153,7 @@ returns-in_err-rewrite_directory-clause-outcome g c =
     subst (λ (r : Result (Begun _) DbError). OpenOutcome old new r) (sym is)
     (outcome_behind {T = Unit {0}} {U = Begun _} old mid new e c.in_ok-found.ensures.store c.in_ok-found.ensures.counted c.in_err-rewrite_directory.ensures.files.call)
 
--- ---- what a stop leaves
+-- ---- what a process crash leaves
 
 pub returns-in_err-found-clause-stops : goal.returns-in_err-found-clause-stops
 returns-in_err-found-clause-stops g c f =
@@ -183,7 +183,7 @@ returns-clause-stops g c f =
     behind_stops (order_of g.K.KeyOrder.name g.K.KeyOrder.cmp) (g.S.Store.facts c.args.store.now) (g.S.Store.facts c.find.new.store) (g.S.Store.facts c.rewrite_directory.new.store) c.in_ok-found.found
     (c.in_ok-found.ensures.store.calls m) (c.in_ok-found.ensures.store.same m) (c.in_ok-found.ensures.found m) (c.in_ok-rewrite_directory.ensures.stops f)
 
--- ---- what a loss of power leaves
+-- ---- what a power loss leaves
 
 pub returns-in_err-found-clause-loses : goal.returns-in_err-found-clause-loses
 returns-in_err-found-clause-loses g c f stays =

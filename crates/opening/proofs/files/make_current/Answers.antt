@@ -96,7 +96,7 @@ returns-clause-stops g c f =
 pub returns-clause-ends : goal.returns-clause-ends
 returns-clause-ends g c = λ f. behind_added (g.S.Store.facts c.rename.new.self) (g.S.Store.facts c.sync.new.self) (name_of Current) (c.in_default-sync.ensures.calls.ok f)
 
--- ---- what a loss of power leaves
+-- ---- what a power loss leaves
 
 pub returns-in_err-write_file-clause-loses : goal.returns-in_err-write_file-clause-loses
 returns-in_err-write_file-clause-loses g c f apart stays = unset_loses (g.S.Store.facts c.args.store.now) c.args.temporary.now c.args.bytes.now (g.S.Store.facts c.write_file.new.store) (c.in_err-write_file.ensures.stops f) stays

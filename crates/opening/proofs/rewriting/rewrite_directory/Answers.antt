@@ -166,7 +166,7 @@ returns-clause-current g c = (done_durable g c).1
 pub returns-clause-spared : goal.returns-clause-spared
 returns-clause-spared g c = (done_durable g c).2
 
--- ---- what a stop leaves
+-- ---- what a process crash leaves
 
 pub returns-in_err-write_file-clause-stops : goal.returns-in_err-write_file-clause-stops
 returns-in_err-write_file-clause-stops g c f h =
@@ -349,7 +349,7 @@ returns-clause-since g c f h =
     subst (λ (name : List ℕ). OnOk c.create_file.result (BeginsSpared new name)) (sym c.requires.planned.log_name)
     (log_begun order c.args.found.now old mid most new c.args.rewrite.now.manifest.items c.args.rewrite.now.current.items c.create_file.result c.requires.usable h written made (c.in_ok-make_current.ensures.ends m) begun m f)
 
--- ---- what a loss of power leaves
+-- ---- what a power loss leaves
 
 pub returns-in_err-write_file-clause-loses : goal.returns-in_err-write_file-clause-loses
 returns-in_err-write_file-clause-loses g c f h stays =

@@ -5,7 +5,7 @@ use Rattle.table.specs.Checking.{IsAdmitted}
 use Rattle.table.proofs.Walks.{IsWalked, left_at}
 use Rattle.table.proofs.checking.are_admitted.Given as goal
 
--- the pairs in front of the cursor are admitted
+-- the pairs before the cursor are admitted
 abbrev pub invariant-loop-cursor : goal.invariant-loop-cursor
 invariant-loop-cursor g l = (found : List Pair) × IsWalked l.initial.cursor.pairs l.cursor found × AllByRecursion (IsAdmitted l.filter l.offset) found
 

@@ -46,7 +46,7 @@ returns-in-Err-clause-step g c = leads_then (λ m n o h k. works_then m n o h.0 
 pub returns-clause-step : goal.returns-clause-step
 returns-clause-step g c = leads_as (λ m n h. h.0) c.loop.invariant.steps
 
--- ---- what a stop leaves
+-- ---- what a process crash leaves
 
 pub returns-in-Ok-Idle-clause-stops : goal.returns-in-Ok-Idle-clause-stops
 returns-in-Ok-Idle-clause-stops g c = db_stops_then (order_of g.K.KeyOrder.name g.K.KeyOrder.cmp) g.S.Store.facts c.args.self.now c.loop.self c.work.new.self c.loop.invariant.steps c.work.ensures.step.faithful c.loop.invariant.stops c.work.ensures.stops
@@ -60,7 +60,7 @@ returns-then-can_rest-clause-stops g c = db_stops_then (order_of g.K.KeyOrder.na
 pub returns-clause-stops : goal.returns-clause-stops
 returns-clause-stops g c = c.loop.invariant.stops
 
--- ---- what a loss of power leaves
+-- ---- what a power loss leaves
 
 pub returns-in-Ok-Idle-clause-loses : goal.returns-in-Ok-Idle-clause-loses
 returns-in-Ok-Idle-clause-loses g c = db_loses_then (order_of g.K.KeyOrder.name g.K.KeyOrder.cmp) g.S.Store.facts c.args.self.now c.loop.self c.work.new.self c.work.ensures.step.faithful c.loop.invariant.found c.loop.invariant.steps c.work.ensures.stops c.loop.invariant.loses c.work.ensures.loses

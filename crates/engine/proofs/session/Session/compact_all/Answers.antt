@@ -77,7 +77,7 @@ pub returns-in-Err-clause-breaks : goal.returns-in-Err-clause-breaks
 returns-in-Err-clause-breaks g c = breaks_open (g.S.Store.facts c.args.self.now.source.tables.store) (g.S.Store.facts c.compact_all.new.source.tables.store) (option_map (open_db c.args.self.now.source.memory) c.args.self.now.state) (Some (open_db c.compact_all.new.source.memory c.compact_all.new.self)) (open_db c.args.self.now.source.memory c.in-Some.state) (open_db c.compact_all.new.source.memory c.compact_all.new.self) _ (ap (option_map (open_db c.args.self.now.source.memory)) c.in-Some.is) refl
     (λ whole. breaks_as (g.S.Store.facts c.args.self.now.source.tables.store) (g.S.Store.facts c.compact_all.new.source.tables.store) c.compact_all.new.self.broken (λ io. told_io {T = Unit {0}} c.in-Err.error (sym c.in-Err.is ∙ io)) (c.compact_all.ensures.breaks whole))
 
--- ---- what a stop leaves
+-- ---- what a process crash leaves
 
 pub returns-in-None-clause-stops : goal.returns-in-None-clause-stops
 returns-in-None-clause-stops g c =
@@ -93,7 +93,7 @@ returns-in-Err-clause-stops g c =
     let memory = c.args.self.now.source.memory in
     stops_lent (order_of g.K.KeyOrder.name g.K.KeyOrder.cmp) (seen_of g.S.Store.facts c.args.self.now.source) (seen_of g.S.Store.facts c.compact_all.new.source) c.args.self.now.ids (open_in c.args.self.now) (open_db memory c.in-Some.state) (ap (option_map (open_db memory)) c.in-Some.is) c.compact_all.ensures.stops
 
--- ---- what a loss of power leaves
+-- ---- what a power loss leaves
 
 pub returns-in-None-clause-loses : goal.returns-in-None-clause-loses
 returns-in-None-clause-loses g c =

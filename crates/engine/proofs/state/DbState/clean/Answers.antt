@@ -48,7 +48,7 @@ returns-clause-dropped g c = λ generation unused.
       | inr read ↦ inr read
     ]))
 
--- ---- what a stop leaves
+-- ---- what a process crash leaves
 
 pub returns-in_err-removal-clause-stops : goal.returns-in_err-removal-clause-stops
 returns-in_err-removal-clause-stops g c =

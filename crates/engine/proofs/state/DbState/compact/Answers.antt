@@ -133,7 +133,7 @@ returns-in_err-step_job-clause-breaks g c = breaks_then (g.S.Store.facts c.args.
 pub returns-clause-breaks : goal.returns-clause-breaks
 returns-clause-breaks g c = unbroken (g.S.Store.facts c.args.source.now.tables.store) (g.S.Store.facts c.step_job.new.source.tables.store) c.step_job.new.self.broken c.in_ok-step_job.ensures.serves.whole (c.in_ok-step_job.ensures.serves.unwritten ∙ c.in_ok-begin_job.ensures.fails)
 
--- ---- what a stop leaves
+-- ---- what a process crash leaves
 
 pub returns-in_err-plan-clause-stops : goal.returns-in_err-plan-clause-stops
 returns-in_err-plan-clause-stops g c = keeps_none (order_of g.K.KeyOrder.name g.K.KeyOrder.cmp) (seen_of g.S.Store.facts c.args.source.now) (open_db c.args.source.now.memory c.args.self.now)

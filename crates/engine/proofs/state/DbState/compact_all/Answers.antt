@@ -52,7 +52,7 @@ returns-then-self-clause-breaks g c whole = absurd (let broken = c.if-self.true 
 pub returns-clause-breaks : goal.returns-clause-breaks
 returns-clause-breaks g c whole = c.compact_everything.ensures.breaks
 
--- ---- what a stop leaves
+-- ---- what a process crash leaves
 
 pub returns-then-self-clause-stops : goal.returns-then-self-clause-stops
 returns-then-self-clause-stops g c = keeps_none (order_of g.K.KeyOrder.name g.K.KeyOrder.cmp) (seen_of g.S.Store.facts c.args.source.now) (open_db c.args.source.now.memory c.args.self.now)

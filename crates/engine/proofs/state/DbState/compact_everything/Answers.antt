@@ -217,7 +217,7 @@ returns-in_default-clause-breaks g c = unbroken (g.S.Store.facts c.args.source.n
 pub returns-clause-breaks : goal.returns-clause-breaks
 returns-clause-breaks g c = breaks_then (g.S.Store.facts c.args.source.now.tables.store) (g.S.Store.facts c.write_memory.new.source.tables.store) (g.S.Store.facts c.run_job.new.source.tables.store) c.run_job.new.self.broken (c.in_ok-write_memory.ensures.serves.unwritten ∙ c.in_ok-run_job_to_end.ensures.serves.unwritten) (λ is. is) c.run_job.ensures.breaks
 
--- ---- what a stop leaves
+-- ---- what a process crash leaves
 
 pub returns-in_err-run_job_to_end-clause-stops : goal.returns-in_err-run_job_to_end-clause-stops
 returns-in_err-run_job_to_end-clause-stops g c = c.in_err-run_job_to_end.ensures.stops

@@ -63,7 +63,7 @@ returns-then-level-clause-breaks g c whole = unbroken (g.S.Store.facts c.args.so
 pub returns-clause-breaks : goal.returns-clause-breaks
 returns-clause-breaks g c whole = c.compact_tables_of.ensures.breaks
 
--- ---- what a stop leaves
+-- ---- what a process crash leaves
 
 pub returns-then-self-clause-stops : goal.returns-then-self-clause-stops
 returns-then-self-clause-stops g c = keeps_none (order_of g.K.KeyOrder.name g.K.KeyOrder.cmp) (seen_of g.S.Store.facts c.args.source.now) (open_db c.args.source.now.memory c.args.self.now)

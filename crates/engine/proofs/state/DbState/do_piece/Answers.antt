@@ -46,7 +46,7 @@ returns-in_err-step_job-clause-breaks g c = breaks_as (g.S.Store.facts c.args.so
 pub returns-then-is_some-clause-breaks : goal.returns-then-is_some-clause-breaks
 returns-then-is_some-clause-breaks g c = serves_breaks (g.S.Store.facts c.args.source.now.tables.store) (g.S.Store.facts c.step_job.new.source.tables.store) (open_db c.args.source.now.memory c.args.self.now) (open_db c.step_job.new.source.memory c.step_job.new.self) c.in_ok-step_job.ensures.serves
 
--- ---- what a stop leaves
+-- ---- what a process crash leaves
 
 pub returns-in_err-step_job-clause-stops : goal.returns-in_err-step_job-clause-stops
 returns-in_err-step_job-clause-stops g c = c.in_err-step_job.ensures.stops

@@ -86,7 +86,7 @@ returns-in_err-seal-clause-breaks g c = breaks_as (g.S.Store.facts c.args.source
 pub returns-clause-breaks : goal.returns-clause-breaks
 returns-clause-breaks g c = serves_breaks (g.S.Store.facts c.args.source.now.tables.store) (g.S.Store.facts c.seal.new.source.tables.store) (open_db c.args.source.now.memory c.args.self.now) (open_db c.seal.new.source.memory c.seal.new.self) c.in_ok-seal.ensures.serves
 
--- ---- what a stop leaves
+-- ---- what a process crash leaves
 
 pub returns-in_err-flush-clause-stops : goal.returns-in_err-flush-clause-stops
 returns-in_err-flush-clause-stops g c = c.in_err-flush.ensures.stops

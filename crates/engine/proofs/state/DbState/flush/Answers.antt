@@ -146,7 +146,7 @@ returns-in-Err-clause-breaks g c =
     (subst (λ (t : DbState g.row.K.Denot g.K.KeyOrder). After t (settled_as b (flush_answer e))) (sym c.flush_refusal.ensures.state)
     (breaks_settled {T = Unit {0}} old new failed given (flush_answer e) is (some_as old new ensures.call.failures ensures.fails) c.requires.whole b refl))
 
--- ---- what a stop leaves
+-- ---- what a process crash leaves
 
 pub returns-then-is_empty-clause-stops : goal.returns-then-is_empty-clause-stops
 returns-then-is_empty-clause-stops g c = keeps_none (order_of g.K.KeyOrder.name g.K.KeyOrder.cmp) (seen_of g.S.Store.facts c.args.source.now) (open_db c.args.source.now.memory c.args.self.now)

@@ -105,7 +105,7 @@ returns-in_err-begin_job-clause-breaks g c = unbroken (g.S.Store.facts c.args.so
 pub returns-clause-breaks : goal.returns-clause-breaks
 returns-clause-breaks g c = breaks_then (g.S.Store.facts c.args.source.now.tables.store) (g.S.Store.facts c.begin_job.new.source.tables.store) (g.S.Store.facts c.run_job_to_end.new.source.tables.store) c.run_job_to_end.new.self.broken c.in_ok-begin_job.ensures.fails (λ is. is) c.run_job_to_end.ensures.breaks
 
--- ---- what a stop leaves
+-- ---- what a process crash leaves
 
 pub returns-in_err-begin_job-clause-stops : goal.returns-in_err-begin_job-clause-stops
 returns-in_err-begin_job-clause-stops g c = keeps_read (order_of g.K.KeyOrder.name g.K.KeyOrder.cmp) (seen_of g.S.Store.facts c.args.source.now) (seen_of g.S.Store.facts c.begin_job.new.source) (open_db c.args.source.now.memory c.args.self.now) c.in_err-begin_job.ensures.calls c.in_err-begin_job.ensures.files c.in_err-begin_job.ensures.synced

@@ -53,7 +53,7 @@ returns-then-is_none-clause-breaks g c = unbroken (g.S.Store.facts c.args.source
 pub returns-clause-breaks : goal.returns-clause-breaks
 returns-clause-breaks g c = c.take_steps.ensures.breaks
 
--- ---- what a stop leaves
+-- ---- what a process crash leaves
 
 pub returns-then-is_none-clause-stops : goal.returns-then-is_none-clause-stops
 returns-then-is_none-clause-stops g c = keeps_none (order_of g.K.KeyOrder.name g.K.KeyOrder.cmp) (seen_of g.S.Store.facts c.args.source.now) (open_db c.args.source.now.memory c.args.self.now)

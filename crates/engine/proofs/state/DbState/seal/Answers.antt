@@ -74,7 +74,7 @@ returns-in-Err-clause-breaks g c =
     (subst (λ (t : DbState g.row.K.Denot g.K.KeyOrder). After t c.in-Err.error) (sym c.refuse.ensures.broken)
     (breaks_counted {T = Unit {0}} old new given c.in-Err.error c.requires.whole c.in-Err.ensures.fails c.in-Err.ensures.counted))
 
--- ---- what a stop leaves
+-- ---- what a process crash leaves
 
 pub returns-in_err-front-clause-stops : goal.returns-in_err-front-clause-stops
 returns-in_err-front-clause-stops g c = keeps_none (order_of g.K.KeyOrder.name g.K.KeyOrder.cmp) (seen_of g.S.Store.facts c.args.source.now) (open_db c.args.source.now.memory c.args.self.now)

@@ -409,7 +409,7 @@ returns-in-Err-install-clause-breaks g c =
     (breaks_settled {T = Bool} old new failed given e c.write_failures-failed.ensures
     (some_behind old mid new (unwritten old mid s.touches.writes.writes s.stood) s.stood (some_as mid new i.call.failures i.fails)) c.requires.whole b refl))
 
--- ---- what a stop leaves
+-- ---- what a process crash leaves
 
 pub returns-in-Err-clause-stops : goal.returns-in-Err-clause-stops
 returns-in-Err-clause-stops g c =

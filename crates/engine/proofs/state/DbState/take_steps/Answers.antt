@@ -176,7 +176,7 @@ returns-then-branch-clause-breaks g c = unbroken (g.S.Store.facts c.args.source.
 pub returns-clause-breaks : goal.returns-clause-breaks
 returns-clause-breaks g c = serves_breaks (g.S.Store.facts c.args.source.now.tables.store) (g.S.Store.facts c.loop.source.tables.store) (open_db c.args.source.now.memory c.args.self.now) (open_db c.loop.source.memory c.loop.self) c.loop.invariant.serves
 
--- ---- what a stop leaves
+-- ---- what a process crash leaves
 
 pub returns-in_err-step_job-clause-stops : goal.returns-in_err-step_job-clause-stops
 returns-in_err-step_job-clause-stops g c =

@@ -147,7 +147,7 @@ returns-in-Ok-clause-breaks g c whole = breaks_then (g.S.Store.facts c.args.sour
 pub returns-in-Err-clause-breaks : goal.returns-in-Err-clause-breaks
 returns-in-Err-clause-breaks g c whole = breaks_then (g.S.Store.facts c.args.source.now.tables.store) (g.S.Store.facts c.clean.new.source.tables.store) (g.S.Store.facts c.do_piece.new.source.tables.store) c.do_piece.new.self.broken c.in_ok-complete.ensures.fails (λ is. refused_io {T = Progress} {U = Progress} c.in_ok-complete.complete c.in-Err.error c.refusal.result c.refusal.ensures is) c.in-Err.ensures.breaks
 
--- ---- what a stop leaves
+-- ---- what a process crash leaves
 
 pub returns-then-self-clause-stops : goal.returns-then-self-clause-stops
 returns-then-self-clause-stops g c = keeps_none (order_of g.K.KeyOrder.name g.K.KeyOrder.cmp) (seen_of g.S.Store.facts c.args.source.now) (open_db c.args.source.now.memory c.args.self.now)

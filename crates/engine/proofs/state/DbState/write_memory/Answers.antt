@@ -145,7 +145,7 @@ returns-in_err-seal-clause-breaks g c = breaks_then (g.S.Store.facts c.args.sour
 pub returns-clause-breaks : goal.returns-clause-breaks
 returns-clause-breaks g c = breaks_then (g.S.Store.facts c.args.source.now.tables.store) (g.S.Store.facts c.seal.new.source.tables.store) (g.S.Store.facts c.flush.new.source.tables.store) c.flush.new.self.broken (c.in_ok-seal.ensures.serves.unwritten ∙ c.in_ok-write_sealed.ensures.serves.unwritten) (λ is. is) c.flush.ensures.breaks
 
--- ---- what a stop leaves
+-- ---- what a process crash leaves
 
 pub returns-in_err-write_sealed-clause-stops : goal.returns-in_err-write_sealed-clause-stops
 returns-in_err-write_sealed-clause-stops g c = c.in_err-write_sealed.ensures.stops

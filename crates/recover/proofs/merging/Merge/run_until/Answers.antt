@@ -32,7 +32,7 @@ returns-in_default-clause-begun g c = c.loop.invariant.1
 pub returns-in_default-clause-ended : goal.returns-in_default-clause-ended
 returns-in_default-clause-ended g c = ended_all c.args.bound c.deref.result.now c.loop.self.lanes.items c.deref.ensures.value c.in_default.ensures
 
--- the least is not in front of the bound
+-- the least is not before the bound
 
 pub index-requires : goal.index-requires
 index-requires g c =
