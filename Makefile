@@ -1,4 +1,4 @@
-# What a user types; `make` alone lists it.
+# What a user types. `make` alone lists it.
 
 # The command of the Rattle toolchain.
 RT ?= $(firstword $(shell command -v rt 2> /dev/null) $(wildcard /opt/rattle/bin/rt))
@@ -6,56 +6,72 @@ export RT
 
 PROGRAMS := quickstart ldbtool
 
-# Where `make install` puts ldbtool and what belongs to it. DESTDIR is put in front of it, as packagers want it.
+# Where `make install` puts ldbtool and what belongs to it. Packagers set DESTDIR, which comes first.
 PREFIX ?= /usr/local
 LDBTOOL ?= build/ldbtool
 BELOW := $(DESTDIR)$(PREFIX)
 DOC := share/doc/ldbtool
 
-# What is installed beside the program, and where (each FILE:PLACE, the place below PREFIX). Debian's zsh looks elsewhere in a package.
+# What is installed beside the program: FILE:PLACE, the place below PREFIX.
+# (Debian's zsh looks elsewhere in a package.)
 ZSH ?= share/zsh/site-functions
+DOCUMENTS := README.md docs/GUIDE.md CHANGELOG.md LICENSE-MIT LICENSE-APACHE
 FILES := \
   man/ldbtool.1:share/man/man1/ldbtool.1 \
   completion/ldbtool.bash:share/bash-completion/completions/ldbtool \
   completion/_ldbtool:$(ZSH)/_ldbtool \
-  $(foreach it,README.md CHANGELOG.md LICENSE-MIT LICENSE-APACHE,$(it):$(DOC)/$(it))
+  $(foreach it,$(DOCUMENTS),$(it):$(DOC)/$(notdir $(it)))
 
-# What the proved program is made of: where none of it is newer, it isn't proved again.
-SOURCES := crates.txt $(shell find crates -name out -prune -o \( -name '*.rt' -o -name '*.antt' \) -print)
+# The sources of the proved program. If none is newer than it, it isn't proved again.
+SOURCES := crates.txt \
+  $(shell find crates -name out -prune -o \( -name '*.rt' -o -name '*.antt' \) -print)
 
-.PHONY: help demo quick build install uninstall deb program stops soak test bugs costs interop bench clean needs-rt
+.PHONY: help demo quick build install uninstall deb program stops soak test bugs costs interop \
+  bench clean needs-rt
 .SILENT:
 
-help:
-	echo 'make demo      runs quickstart before any proof: it opens, writes, reads, closes and shows the log (under a minute)'
-	echo 'make quick     what needs no proof: each test and program, and over what is in build/ the checks of ldbtool and those beside LevelDB (minutes)'
-	echo 'make test      everything: each proof from nothing, each test, the edits of crates that have changed since all were refused, the checks of ldbtool'
-	echo '               and those beside LevelDB itself (one to two hours; make test FULL=1 tries the edits of every crate, and proves all tests)'
-	echo 'make build     proves the programs and leaves them in build/'
-	echo 'make install   puts ldbtool, proved, its manual page, completion for bash and zsh, licences and README below PREFIX (/usr/local),'
-	echo '               which lies in DESTDIR (none)'
-	echo 'make uninstall takes them away again'
-	echo 'make deb       makes a Debian package of the same, in build/ (needs dpkg-dev and binutils)'
-	echo 'make program   ldbtool as its users run it: scripts, pipes, wrong folders, examples, installing (a minute once it is built)'
-	echo 'make stops     what a stop of ldbtool may leave of a folder, and what a loss of power may: every state is rebuilt and opened (under a minute)'
-	echo 'make soak      drawn sessions of ldbtool beside a plain model, every second one killed midway, what stops and losses of power may leave of'
-	echo '               others, and 20,000 damaged directories: ten minutes each, or make soak SECONDS=60'
-	echo 'make interop   the checks beside LevelDB itself alone'
-	echo 'make bench     the benchmark beside LevelDB, into docs/SPEED.md: make bench N=100000 for fewer entries than a million'
-	echo 'make bugs      the edits of must-fail/ and bugs/, each of which the prover must refuse; bugs/refused.txt says of which crates it did (hours;'
-	echo '               make bugs CRATE=table for one crate)'
-	echo 'make costs     what the gate pays for each crate (hours; make costs CRATE=table for one crate)'
-	echo 'make clean     takes away all that was built'
+define HELP
+make demo       A first session of ldbtool over a real folder, build/demo. It uses build/ldbtool, or
+                else builds the program without its proof: some two minutes, the first time only.
+make quick      All tests that need no proof: minutes. Over the programs in build/, if they are
+                there, it also checks ldbtool, and compares it with LevelDB.
+make test       Everything: each proof from nothing, each test, the bugs that the prover must
+                refuse (of the crates that have changed), ldbtool, LevelDB beside it. It takes one
+                to two hours. make test FULL=1 tries the bugs of all crates, and proves all tests.
+make build      Proves the programs, and puts them into build/: an hour or more from nothing.
+make install    Puts ldbtool, its manual page, completion for bash and zsh, documents and licences
+                below PREFIX (/usr/local), which lies in DESTDIR (none).
+make uninstall  Removes them.
+make deb        Makes a Debian package of the same in build/. It needs dpkg-dev and binutils.
+make program    Checks ldbtool as users run it: scripts, pipes, wrong folders, examples. A minute.
+make stops      Rebuilds the states after crashes and power losses, and opens each. Under a minute.
+make soak       Drawn sessions of ldbtool beside a plain model, half of them killed; states after
+                crashes and power losses; 20,000 damaged directories. Ten minutes each, or those
+                of make soak SECONDS=60.
+make interop    Compares ldbtool with LevelDB: three minutes.
+make bench      Measures ldbtool beside LevelDB, into docs/SPEED.md. make bench N=100000 takes
+                fewer entries than a million.
+make bugs       Tries all bugs that the prover must refuse, and records it in bugs/refused.txt.
+                Hours; make bugs CRATE=table for one crate.
+make costs      Says what each crate costs the gate. Hours; make costs CRATE=table for one crate.
+make clean      Removes all that was built.
 
-demo: needs-rt
-	echo 'quickstart by rt try: compiled with checks at run time, and not proved. make build proves it first.'
-	cd crates/quickstart && $(RT) try < /dev/null
+make quick, test and interop compare with LevelDB. If g++, libleveldb-dev or python3-plyvel is
+missing, they install it by apt-get. Without a network they say so, run the rest, and fail.
+endef
+export HELP
+
+help:
+	echo "$$HELP"
+
+demo:
+	tools/demo
 
 quick: needs-rt
 	tools/quick
 
 build: needs-rt
-	echo 'Proving $(PROGRAMS) and all below: half an hour to an hour from nothing on four processors, and minutes where nothing has changed.'
+	echo 'Proving $(PROGRAMS) and all below: an hour or more from nothing, on four processors.'
 	mkdir -p build
 	tools/libraries $(PROGRAMS)
 	for program in $(PROGRAMS); do tools/proved $$program || exit 1; done
@@ -67,13 +83,18 @@ install: $(LDBTOOL)
 	install -D -m 755 '$(LDBTOOL)' '$(BELOW)/bin/ldbtool'
 	echo 'installed $(BELOW)/bin/ldbtool'
 	for it in $(FILES); do \
-	  install -D -m 644 "$${it%%:*}" '$(BELOW)'/"$${it#*:}" && echo 'installed $(BELOW)'/"$${it#*:}" || exit 1; \
+	  install -D -m 644 "$${it%%:*}" '$(BELOW)'/"$${it#*:}" && \
+	    echo 'installed $(BELOW)'/"$${it#*:}" || exit 1; \
 	done
 
 uninstall:
 	for file in bin/ldbtool $(foreach it,$(FILES),$(lastword $(subst :, ,$(it)))); do \
 	  file='$(BELOW)'/"$$file"; \
-	  if [ -e "$$file" ]; then rm "$$file" && echo "removed $$file" || exit 1; else echo "there is no $$file"; fi; \
+	  if [ -e "$$file" ]; then \
+	    rm "$$file" && echo "removed $$file" || exit 1; \
+	  else \
+	    echo "there is no $$file"; \
+	  fi; \
 	done
 	if [ -d '$(BELOW)/$(DOC)' ]; then rmdir --ignore-fail-on-non-empty '$(BELOW)/$(DOC)'; fi
 
@@ -111,6 +132,6 @@ clean:
 
 needs-rt:
 	command -v python3 > /dev/null || \
-	  { echo 'python3, on which rt runs, is missing (3.8 or later): apt-get install python3' >&2; exit 1; }
+	  { echo 'python3 is missing (3.8 or later): apt-get install python3' >&2; exit 1; }
 	test -n "$(RT)" || \
-	  { echo 'rt, the command of the Rattle toolchain, is not on PATH: put the bin/ of the kit there' >&2; exit 1; }
+	  { echo 'rt, the Rattle toolchain, is not on PATH: put the bin/ of the kit there' >&2; exit 1; }

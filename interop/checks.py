@@ -29,7 +29,7 @@ def main():
     given = words.parse_args()
     Programs.quickstart, Programs.ldbtool, Programs.leveldb = given.quickstart, given.ldbtool, given.leveldb
     # each adds its checks to the list
-    for name in ("logs", "faults", "tables", "directories", "turns", "orders", "power"):
+    for name in ("logs", "faults", "tables", "directories", "turns", "orders", "power", "guide"):
         importlib.import_module(name)
     if not given.list:
         print(f"interop: beside LevelDB {run([Programs.leveldb, 'version']).stdout.strip()}", flush=True)

@@ -4,7 +4,9 @@ prints.
 A command stands after '$ ', with the lines of its here-document `<<end` if it has one. What it
 prints comes below.
 """
+import os
 import re
+import subprocess
 import textwrap
 
 from repository import ROOT
@@ -50,3 +52,21 @@ def examples_of_help(told):
     """Returns those after the line `Examples:` or `Example:`."""
     behind = re.split(r"^Examples?:\n", told, flags=re.M)[1]
     return read(textwrap.dedent(behind).rstrip("\n").splitlines())
+
+
+def recipes_of_guide():
+    """Returns the recipes of docs/GUIDE.md by their numbers: what a user pastes into bash."""
+    found = re.findall(r"^(\d+)\\\. .*(?:\n.+)*\n\n((?:    .*\n)+)", text_of("docs/GUIDE.md"), re.M)
+    return {int(number): textwrap.dedent(block) for number, block in found}
+
+
+def ran_recipe(number, program, folder):
+    """Runs a recipe in a folder, with this program as ldbtool, and with Debian's python3."""
+    tools = f"{folder}/.bin"
+    if not os.path.isdir(tools):
+        os.mkdir(tools)
+        os.symlink(program, f"{tools}/ldbtool")
+        os.symlink("/usr/bin/python3", f"{tools}/python3")
+    environment = {**os.environ, "PATH": f"{tools}:{os.environ['PATH']}"}
+    how = {"cwd": folder, "env": environment, "stdin": subprocess.DEVNULL, "capture_output": True, "text": True}
+    return subprocess.run(["bash", "-c", recipes_of_guide()[number]], timeout=60, check=False, **how)

@@ -16,6 +16,7 @@ PLACES = {
     "completion/ldbtool.bash": "share/bash-completion/completions/ldbtool",
     "completion/_ldbtool": "share/zsh/site-functions/_ldbtool",
     "README.md": "share/doc/ldbtool/README.md",
+    "docs/GUIDE.md": "share/doc/ldbtool/GUIDE.md",
     "CHANGELOG.md": "share/doc/ldbtool/CHANGELOG.md",
     "LICENSE-MIT": "share/doc/ldbtool/LICENSE-MIT",
     "LICENSE-APACHE": "share/doc/ldbtool/LICENSE-APACHE",
@@ -31,6 +32,7 @@ PLAIN = {
     "completion/ldbtool.bash": "share/bash-completion/completions/ldbtool",
     "completion/_ldbtool": "share/zsh/vendor-completions/_ldbtool",
     "README.md": "share/doc/ldbtool/README.md",
+    "docs/GUIDE.md": "share/doc/ldbtool/GUIDE.md",
     "packaging/copyright": "share/doc/ldbtool/copyright",
 }
 
