@@ -1,6 +1,5 @@
-"""Records what a program does to the files of a folder, call by call, and what it has answered by
-then. The program runs over a shim that records (recording_calls.c). It is given a script line by
-line, each once the line before it is answered."""
+"""What a program did to the files of a folder, call by call, and what it had answered by then: it is run over a shim that records that
+(recording_calls.c), and is given a script line by line, each once the line before it is answered."""
 import collections
 import os
 import struct
@@ -15,18 +14,17 @@ SECONDS = 60
 
 
 class Ended(Wrong):
-    """Says that a recorded program ended before its script did, since it was refused."""
+    """A program that was recorded ended before its script did, since it was refused."""
 
 
-# an entry's head: its kind, flags, the inode, the place, and the lengths of its two texts
+# what stands in front of an entry's texts: its kind, flags, the inode, the place, and the lengths of the two
 HEAD = struct.Struct("=IIQQII")
 Entry = collections.namedtuple("Entry", "flags file place first second")
 
 
 @dataclass(frozen=True)
 class Opened:
-    """Holds an open that makes a file if none has the name, and empties it if it says so. Files are
-    told by their inodes."""
+    """An open that makes a file where none has the name, and empties it if it says so. Files are told by their inodes."""
 
     name: str
     file: int
@@ -53,7 +51,7 @@ class Removed:
 
 @dataclass(frozen=True)
 class Synced:
-    """Holds a sync of a file, or of the folder itself."""
+    """A file, or the folder itself."""
 
     file: int
 
@@ -68,7 +66,7 @@ class Answered:
     lines: int
 
 
-# the call that each kind of entry stands for
+# of each kind of entry, the call that it stands for
 CALLS = {
     1: lambda it: Opened(it.first.decode(), it.file, bool(it.flags)),
     2: lambda it: Wrote(it.file, it.place, it.first),
@@ -81,7 +79,7 @@ CALLS = {
 
 
 def calls_in(path):
-    """Returns the calls of a record, by the entries that recording_calls.c puts there."""
+    """The calls of a record, by the entries that recording_calls.c puts there."""
     with open(path, "rb") as file:
         text = file.read()
     found, at = [], 0
@@ -95,7 +93,7 @@ def calls_in(path):
 
 
 def files_in(folder):
-    """Returns each file of a folder by its name: its inode, and what it holds."""
+    """Each file of a folder by its name: its inode, and what it holds."""
     found = {}
     for it in os.scandir(folder):
         with open(it.path, "rb") as file:
@@ -104,7 +102,7 @@ def files_in(folder):
 
 
 def answers_to(process, script):
-    """Gives a program its lines one by one, and returns what it says to each, until it ends."""
+    """Gives a program its lines one by one, and answers what it says to each, until it ends."""
     answers = []
     try:
         for line in script:
@@ -117,8 +115,7 @@ def answers_to(process, script):
 
 
 class Recording:
-    """Holds a folder as it was, what one or several runs did there since, and what these
-    answered."""
+    """A folder as it was, what was done there since, by one run of a program or several, and what these answered."""
 
     def __init__(self, shim, folder, record, **environment):
         self.folder, self.record = os.path.abspath(folder), record
