@@ -2,7 +2,8 @@
 recording of the calls on it (recorded.py).
 
 A crash leaves what the calls so far have done. One in the middle of a write leaves any number of
-its bytes. After a power loss this is assumed, as of ext4 and XFS with ordered data:
+its bytes. After a power loss this is assumed, which ext4 breaks in its last point
+(docs/GUARANTEES.md, section 5):
 
 - A synced file keeps what it held then, and a synced folder keeps its names as they were then.
 - After that, names reach the disk in the order of the calls that changed them.
