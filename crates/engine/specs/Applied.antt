@@ -54,8 +54,8 @@ IsRead key snapshot None (Value value) = ⊥
 IsRead key snapshot (Some db) (Value value) = (sequence : ℕ) × (sequence_at db snapshot ≡ Some sequence) × ReadsMemory db sequence key value
 IsRead key snapshot state _ = Unit {0}
 
--- Work is done where a compaction is under way, a memtable is sealed or full, or a level wants
--- a compaction, and else there is none.
+-- Work is done if a compaction is under way, a memtable is sealed or full, or a level wants a
+-- compaction; else there is none.
 abbrev pub ShowsWork : {K : Type 0} {g : _} → OptionValues → Option (OpenDb K g) → Answer → Type 0
 ShowsWork options (Some db) Worked =
     IsSome db.job ⊎ IsSome db.memory.sealed ⊎ (options.write_buffer ≤ size_of db.memory.current.inserts) ⊎ ((level : ℕ) × WantsCompaction options db level)
@@ -112,7 +112,7 @@ pub record DoneWork {K : Type 0} {g : _} (order : Order) (options : OptionValues
   pub exact : LeavesExactlyLive order old new before after result
   pub dropped : result ≡ Ok Idle → HasUsedMemory after.memory after.iterators
 
--- so of a command to work, where a database is open
+-- the same of a command to work, where a database is open
 abbrev pub WorksIn : {K : Type 0} {g : _} → Order → OptionValues → ℕ → Seen → Seen → Option (OpenDb K g) → Option (OpenDb K g) → Answer → Type 0
 WorksIn order options budget old new None state answer = Unit {0}
 WorksIn order options budget old new (Some before) (Some after) Worked = DoneWork order options budget old new before after (Ok progress.Worked)
@@ -120,8 +120,8 @@ WorksIn order options budget old new (Some before) (Some after) answer.Idle = Do
 WorksIn order options budget old new (Some before) (Some after) (Refused error) = DoneWork order options budget old new before after (Err error)
 WorksIn order options budget old new (Some before) state _ = ⊥
 
--- What a compaction of a level promises that is done: where its tables went, and which of their
--- entries.
+-- What a compaction of a level promises that has succeeded: where its tables went, and which of
+-- their entries.
 pub record DoneLevel {K : Type 0} {g : _} (order : Order) (level : ℕ) (old new : Seen) (before after : OpenDb K g) : Type 0 where
   pub moves : MovesLevel order.cmp level before after
   pub merges : MergesLevel order level old new before after
@@ -130,7 +130,7 @@ abbrev pub LevelAnswered : {K : Type 0} {g : _} → Order → ℕ → Seen → S
 LevelAnswered order level old new before after Done = DoneLevel order level old new before after
 LevelAnswered order level old new before after _ = Unit {0}
 
--- So of the command. Done or refused, no entry of a memtable is touched.
+-- The same of the command. Whether it succeeds or fails, no entry of a memtable is touched.
 abbrev pub LevelIn : {K : Type 0} {g : _} → Order → ℕ → Seen → Seen → Option (OpenDb K g) → Option (OpenDb K g) → Answer → Type 0
 LevelIn order level old new (Some before) (Some after) answer = LeavesMemories before.memory after.memory × LevelAnswered order level old new before after answer
 LevelIn order level old new (Some before) None answer = ⊥
@@ -172,7 +172,7 @@ OutcomeBy {S} {K} {g} op facts old new answer = Outcome (IsAnswerTo op) (stood_o
 abbrev pub IsShut : {S K : Type 0} {g : _} → Session S K g → Type 0
 IsShut session = open_in session ≡ None
 
--- what parting with the store does to it
+-- what closing does to the store
 abbrev pub Parted : {S K : Type 0} {g : _} → Session S K g → Facts → Facts → Type 0
 Parted session old new = CloseTouches (open_in session) old new
 
@@ -224,7 +224,7 @@ AllApplied order facts (op ∷ ops) [] old new = ⊥
 
 -- ---- of an open database
 
--- the refusal that a call of it has to have
+-- the error that a call of it must have
 abbrev pub DbCaused : {S K T : Type 0} {g : _} → (Status → Option DbError) → Db S K g → Db S K g → Result T DbError → Type 0
 DbCaused cause old new result = IsCausedIn (cause (open_status old.ids (open_by old))) (db_store_of old) (db_store_of new) result
 
@@ -252,7 +252,7 @@ DbRead key snapshot db result = IsReadBy key snapshot (open_by db) result
 abbrev pub DbWorks : {S K : Type 0} {g : _} → Cmp → ℕ → Db S K g → Db S K g → Result Progress DbError → Type 0
 DbWorks cmp budget old new result = DoesWork cmp old.options budget (open_by old) (open_by new) result
 
--- Where there was none, all files are in use, unless one couldn't be removed.
+-- If there was none, all files are in use, unless one couldn't be removed.
 abbrev pub DbTidies : {S K : Type 0} {g : _} → (S → Facts) → Db S K g → Db S K g → Result Progress DbError → Type 0
 DbTidies facts old new result = result ≡ Ok Idle → IsTrue (facts (db_store_of new)).faithful → (facts (db_store_of new)).failures ≡ (facts (db_store_of old)).failures → HasLiveOnly (facts (db_store_of new)).files (open_by new)
 
@@ -260,7 +260,7 @@ DbTidies facts old new result = result ≡ Ok Idle → IsTrue (facts (db_store_o
 abbrev pub DbDrops : {S K : Type 0} {g : _} → Db S K g → Result Progress DbError → Type 0
 DbDrops new result = result ≡ Ok Idle → HasUsedMemory new.source.memory new.state.iterators
 
--- Live files and those of other programs stay then.
+-- Files in use and those of other programs stay then.
 abbrev pub DbRemoves : {S K : Type 0} {g : _} → (S → Facts) → Db S K g → Db S K g → Result Progress DbError → Type 0
 DbRemoves facts old new result = result ≡ Ok Idle → IsTrue (facts (db_store_of new)).faithful → LosesDead (facts (db_store_of old)) (facts (db_store_of new)) (open_by new)
 
@@ -268,7 +268,7 @@ DbRemoves facts old new result = result ≡ Ok Idle → IsTrue (facts (db_store_
 abbrev pub DbExact : {S K : Type 0} {g : _} → Order → (S → Facts) → Db S K g → Db S K g → Result Progress DbError → Type 0
 DbExact order facts old new result = LeavesExactlyLive order (seen_by facts old) (seen_by facts new) (open_by old) (open_by new) result
 
--- A compaction is at its end exactly where no more entries were left than the budget has.
+-- A compaction is at its end exactly if no more entries were left than the budget has.
 abbrev pub DbEndsWithin : {S K : Type 0} {g : _} → Order → (S → Facts) → ℕ → Db S K g → Db S K g → Result Progress DbError → Type 0
 DbEndsWithin order facts budget old new result = EndsWithin order old.options budget (seen_by facts old) (seen_by facts new) (open_by old) (open_by new) result
 

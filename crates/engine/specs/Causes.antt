@@ -1,5 +1,5 @@
--- What an open database, or a session, shows of the causes of a refusal, and that an answer has the
--- one that there is.
+-- What an open database, or a session, shows of the causes of an error, and that an answer has the
+-- cause that there is.
 use Rattle.std.specs.Prelude.{◌≡◌, true, false, Option, Some, None, is_some, unwrap_or, MatchOption, Result, Err}
 use Rattle.std.specs.Option.{option_map}
 use Rattle.coding.specs.declared.error.DbError.{DbError}
@@ -38,8 +38,8 @@ status_in ids None = record {
   last_iterator = ids.iterator;
 }
 
--- With a cause the answer is that refusal, and the store wasn't called. Without one it is none of
--- these refusals.
+-- With a cause the answer is that error, and the store wasn't called. Without one it is none of
+-- these errors.
 abbrev pub IsCaused : {S : Type 0} → Option DbError → S → S → Answer → Type 0
 IsCaused cause old new answer = MatchOption cause ((e : DbError) → answer ≡ Refused e → IsMet e) (λ e. (answer ≡ Refused e) × (new ≡ old))
 

@@ -44,8 +44,8 @@ pub record HasExactlyLive {K : Type 0} {g : _} (files : Files) (db : OpenDb K g)
   pub tables : (number : ℕ) → HasNumber number db.tables → IsSome (table_at files number)
   pub pinned : (id : ℕ) (scan : Scan K g) → kept_at db.iterators id ≡ Some scan → (number : ℕ) → HasNumber number (tables_of scan) → IsSome (table_at files number)
 
--- Where there is no work and no call failed, that is so, while the store is faithful, from each
--- state of the machine that the database could be in before.
+-- If there is no work and no call failed, that is so, while the store is faithful, from each state
+-- of the machine that the database could be in before.
 abbrev pub LeavesExactlyLive : {K : Type 0} {g : _} → Order → Seen → Seen → OpenDb K g → OpenDb K g → Result Progress DbError → Type 0
 LeavesExactlyLive order old new before after result =
     result ≡ Ok progress.Idle → IsTrue new.facts.faithful → new.facts.failures ≡ old.facts.failures → (ids : Ids) (m : Machine) → StandsWhole order old ids before m → HasExactlyLive new.facts.files after

@@ -14,8 +14,8 @@ use Rattle.engine.specs.Outcomes.{KeepsViews}
 
 -- ---- over any store
 
--- What a compaction leaves: the views, and the database as it was, or broken now, and that only
--- where a failure was counted. What it had done before it was refused, it keeps.
+-- What a compaction leaves: the views, and the database as it was, or broken now, and that only if
+-- a failure was counted. What it had done before it failed, it keeps.
 pub record CompactOutcome {T K : Type 0} {g : _} (may : DbError → Type 0) (old new : Facts) (before after : OpenDb K g) (result : Result T DbError) : Type 0 where
   pub failures : old.failures ≤ new.failures
   pub denials : new.denials ≡ old.denials
@@ -33,8 +33,8 @@ abbrev pub IsLevelEmpty : {K : Type 0} {g : _} → ℕ → OpenDb K g → Type 0
 IsLevelEmpty level db = tables_at level db.tables ≡ []
 
 -- The compaction that was under way came to its end, if one was. After it the tables of the level,
--- where it had some, were compacted into the next one, with what they bring along; its other tables
--- stay.
+-- if it had some, were compacted into the next one, with the tables that they require besides; its
+-- other tables stay.
 pub record MovesLevel {K : Type 0} {g : _} (cmp : Cmp) (level : ℕ) (before after : OpenDb K g) : Type 0 where
   pub between : List PlacedTable
   pub ended : MatchOption before.job (between ≡ before.tables) (λ work. ReplacesInputs work.job.plan before.tables between)

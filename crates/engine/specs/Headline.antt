@@ -60,8 +60,8 @@ abbrev pub Headline : Order → Facts → Facts → List Op → List Answer → 
 Headline order old new ops answers =
     IsTrue new.faithful → (first : Machine) → IsFirst order old first → first.damaged ≡ false → (last : Machine) × Run order first ops answers last × IsLast order new last
 
--- There is a machine of each empty or consistent directory, damaged or not; over no limit, where
--- the directory passes none.
+-- There is a machine of each empty or consistent directory, damaged or not. If the directory passes
+-- no limit, there is one that is over none.
 abbrev pub FirstLaw : Type 0
 FirstLaw = (order : Order) (facts : Facts) (entries : List Entry) (used : ℕ) (over_limit damaged : Bool) → IsTotalOrder order.cmp → IsDirectory order facts.files entries used
     → (over_limit ≡ false → IsWithinLimits order facts.files) → (first : Machine) × IsFirst order facts first × (first.over_limit ≡ over_limit) × (first.damaged ≡ damaged)

@@ -10,7 +10,7 @@ use Rattle.db_cursor.specs.Scans.{reads_memory, tables_of}
 use Rattle.db_cursor.specs.declared.scan.Scan.{Scan}
 use Rattle.versions.specs.Levels.{HasNumber}
 
--- one of the open iterators is so
+-- one of the open iterators has this property
 abbrev pub AnyIterator : {K : Type 0} {g : _} → BTreeMap ℕ (Scan K g) → (Scan K g → Type 0) → Type 0
 AnyIterator iterators P = Any P (values_of iterators.entries)
 

@@ -33,8 +33,8 @@ abbrev pub SparesUnread : Order → Facts → Files → Type 0
 SparesUnread order facts lost = (d : Directory) → IsConsistent order facts.files d → (n : ℕ) → IsNumbered n → n < d.manifest
     → (q : List ℕ) → IsNameOf n q → (IsReadIn facts.files d q ⊎ IsLogIn d q → ⊥) → IsLeftWhole facts lost q
 
--- What a loss has to spare after a command: after an open that succeeded, though a call of the
--- store failed, what that couldn't remove, too.
+-- What a loss must spare after a command. If an open succeeded though a call of the store failed,
+-- that includes what it couldn't remove.
 abbrev pub sparing : Order → Op → Answer → Facts → Facts → (Files → Type 0) → Files → Type 0
 sparing order (Open mode) Done old new spares lost = spares lost × (old.failures < new.failures → SparesUnread order new lost)
 sparing order op answer old new spares lost = spares lost

@@ -30,8 +30,8 @@ use Rattle.engine.specs.declared.ids.Ids.{Ids}
 use Rattle.engine.specs.internal.Standing.{StandsClosed}
 use Rattle.engine.specs.declared.session.Session.{Session}
 
--- The log that writes go to is synced as the last call, no log before it is in doubt, and the
--- database goes on serving.
+-- The last call synced the log that writes go to, no earlier log may be unsynced, and the database
+-- goes on serving.
 pub record HasSyncedLog {K : Type 0} {g : _} (facts : Facts) (db : OpenDb K g) : Type 0 where
   pub last : IsSynced facts (string_bytes db.log.name)
   pub front : db.log.front.items ≡ []
@@ -78,8 +78,8 @@ OutlastsBy _ order facts new answer = Unit {0}
 
 -- ---- between any two calls
 
--- Of the directory that the files are, all is left but batches at the ends of logs, none of which
--- was synced.
+-- All is left of the directory that the files are, except batches at the ends of logs, none of
+-- which was synced.
 pub record LeavesCut (order : Order) (facts : Facts) (lost : Files) : Type 0 where
   pub directory : Directory
   pub whole : IsConsistent order facts.files directory
@@ -87,8 +87,8 @@ pub record LeavesCut (order : Order) (facts : Facts) (lost : Files) : Type 0 whe
   pub cut : AreCut facts directory.logs logs
   pub left : IsConsistent order lost (record directory { logs = logs })
 
--- Those of the logs that were there before the open are left as they are that aren't known to be
--- durable whole. (An open that succeeds syncs them all: HasKeptLogs.)
+-- The logs that were there before the open and aren't known to be durable whole are left as they
+-- are. (An open that succeeds syncs them all: HasKeptLogs.)
 abbrev pub LeavesFoundLogs : {K : Type 0} {g : _} → Files → Files → OpenDb K g → Type 0
 LeavesFoundLogs files lost db = (n : ℕ) → IsNumbered n → n < db.directory.manifest.number → Contains (map string_bytes db.log.front.items) (name_of (Log n))
     → get lost (name_of (Log n)) ≡ get files (name_of (Log n))
@@ -103,7 +103,7 @@ pub record HoldsFirst (order : Order) (files : Files) (m : Machine) : Type 0 whe
   pub used : ℕ
   pub holds : Holds order files (record m { batches = take count m.batches; used = used })
 
--- Every power loss until the next call leaves so much of an open database that isn't broken,
+-- Every power loss until the next call leaves that much of an open database that isn't broken,
 -- whatever the last call was and answered, if it leaves what the open found.
 abbrev pub LosesEnds : {K : Type 0} {g : _} → Order → Facts → OpenDb K g → Machine → Type 0
 LosesEnds order facts db m = db.broken ≡ false → (lost : Files) → Lost facts (moment facts) lost → LeavesFound facts.files lost db
@@ -123,7 +123,7 @@ SessionLosesEnds order facts session = LosesEndsOver order (seen_in facts sessio
 -- ---- in the middle of a call
 
 -- Of files with numbers below this one each is synced whole, or the loss has left it whole, or
--- removed it. (It takes no name away that stays.)
+-- removed it. (It removes no name that stays.)
 abbrev pub SparesBelow : Facts → ℕ → Files → Type 0
 SparesBelow facts bound lost = (n : ℕ) → IsNumbered n → n < bound
     → IsLeftWhole facts lost (name_of (Table n)) × IsLeftWhole facts lost (name_of (OldTable n)) × IsLeftWhole facts lost (name_of (Log n))
@@ -171,7 +171,7 @@ abbrev pub LosesOver : {K : Type 0} {g : _} → Order → Facts → Facts → Op
 LosesOver order old new None m = Unit {0}
 LosesOver order old new (Some db) m = db.broken ≡ false → LosesFirst order old new db m
 
--- Of an open, too; and where none is open it leaves what was accepted, as `OpenLoses` says it.
+-- The same of an open, too. If none is open it leaves what was accepted, as `OpenLoses` says it.
 abbrev pub OpensOver : {K : Type 0} {g : _} → Order → Facts → Facts → Option (OpenDb K g) → Machine → Type 0
 OpensOver order old new None m = ((name : List ℕ) → StaysNamed old name) → LosesOnly old new (λ lost. LeavesUncut old lost → HoldsAccepted order lost m)
 OpensOver order old new (Some db) m = db.broken ≡ false → LosesFirst order old new db m

@@ -28,7 +28,7 @@ pub record HasKeptUp {K : Type 0} {g : _} (options : OptionValues) (db : OpenDb 
   pub memory : size_of db.memory.current.inserts < options.write_buffer
   pub tables : length (tables_at 0 db.tables) ≤ 3 * options.level0_files
 
--- what work does to the machine, whether it kept up or was refused
+-- what work does to the machine, whether it kept up or failed
 abbrev pub WorksAtPace : Pace → Machine → Machine → Type 0
 WorksAtPace KeepsUp old new = OnlyDraws old new
 WorksAtPace (Refused error) old new = OnlyWorks old new

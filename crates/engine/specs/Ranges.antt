@@ -1,4 +1,4 @@
--- Walks over the pairs whose keys lie in a range (LevelDB's include/leveldb/db.h, `Range`, and
+-- Iterations over the pairs whose keys lie in a range (LevelDB's include/leveldb/db.h, `Range`, and
 -- iterator.h).
 use Rattle.std.specs.Prelude.{◌≡◌, ◌⊎◌, ◌&&◌, ◌+◌, ℕ, Bool, true, not, nat_eq, nat_lt, if◌then◌else◌, Option, Some, None, Result, Ok, Err, OnOk, IfErr, MatchBool, MatchOption, List, [], ◌∷◌, ◌++◌, take, drop}
 use Rattle.std.specs.List.{filter}
@@ -58,7 +58,7 @@ prefix_end (byte ∷ bytes) = end_of byte (prefix_end bytes)
 abbrev pub BeginsWith : List ℕ → List ℕ → Type 0
 BeginsWith prefix key = (rest : List ℕ) × (key ≡ prefix ++ rest)
 
--- ---- where a walk stands
+-- ---- where an iteration stands
 
 -- how many pairs at the front come before the range
 abbrev pub start_of : Cmp → Option (List ℕ) → List Pair → ℕ
@@ -70,14 +70,14 @@ abbrev pub up_to : Cmp → Option (List ℕ) → List Pair → List Pair
 up_to cmp to [] = []
 up_to cmp to (pair ∷ pairs) = if is_before_end cmp to pair.0 then pair ∷ up_to cmp to pairs else []
 
--- what is left of a walk whose iterator stands so: of one that hasn't begun all of the range, and
--- of any other what is after its place
+-- what is left of an iteration whose iterator stands so: all of the range if it hasn't begun, and
+-- else what is after its place
 abbrev pub LeftAt : Cmp → Stage → KeyRange → Walk → List Pair → Type 0
 LeftAt cmp Ahead keys at rest = rest ≡ up_to cmp keys.to (drop (start_of cmp keys.from at.pairs) at.pairs)
 LeftAt cmp Within keys at rest = (i : ℕ) × (at.place ≡ Some i) × (rest ≡ up_to cmp keys.to (drop (i + 1) at.pairs))
 LeftAt cmp Over keys at rest = rest ≡ []
 
--- In this state of the machine the walk has an iterator, and these pairs are still to come.
+-- In this state of the machine the iteration has an iterator, and these pairs are still to come.
 pub record HasLeft (order : Order) (m : Machine) (walk : RangeWalk) (rest : List Pair) : Type 0 where
   pub at : Walk
   pub found : lookup (nat_eq walk.id) m.iterators ≡ Some at
@@ -87,16 +87,16 @@ pub record HasLeft (order : Order) (m : Machine) (walk : RangeWalk) (rest : List
 abbrev pub OnlyWalks : ℕ → Machine → Machine → Type 0
 OnlyWalks id old new = (without_id id new.iterators ≡ without_id id old.iterators) × (new ≈ record old { iterators = new.iterators })
 
--- ---- a walk begins
+-- ---- an iteration begins
 
--- It has all pairs of the range before it, of the view that an iterator made now has.
+-- It has all pairs of the range before it that the view of an iterator made now has.
 abbrev pub Begins : Order → Machine → KeyRange → Option ℕ → Result RangeWalk DbError → Machine → Type 0
 Begins order old keys snapshot (Ok walk) new =
     (pairs : List Pair) × AreSortedPairs order.cmp (visible old snapshot) pairs × HasLeft order new walk (pairs_within order.cmp keys pairs)
     × Iterates order old snapshot (Iterator walk.id) new
 Begins order old keys snapshot (Err e) new = Iterates order old snapshot (Refused e) new
 
--- ---- a step of a walk
+-- ---- a step of an iteration
 
 -- how the iterator is moved
 abbrev pub start_motion : Option (List ℕ) → Motion
@@ -108,22 +108,22 @@ next_motion Ahead keys = start_motion keys.from
 next_motion Within keys = ToNext
 next_motion Over keys = ToNext
 
--- What the walk makes of the pair that its iterator came to: a pair at the end or after it is none
--- of its own.
+-- What the iteration makes of the pair that its iterator came to: a pair at the end or after it is
+-- none of its own.
 abbrev pub Settles : Cmp → RangeWalk → Option Pair → RangeWalk → Option Pair → Type 0
 Settles cmp old None new result = (result ≡ None) × (new ≡ record old { stage = Over })
 Settles cmp old (Some pair) new result = MatchBool (is_before_end cmp old.keys.to pair.0)
     ((result ≡ Some pair) × (new ≡ record old { stage = Within }))
     ((result ≡ None) × (new ≡ record old { stage = Over }))
 
--- The first of these is given, and the others are left; none where none was left. A refusal leaves
+-- The first of these is returned, and the others are left; None if none was left. An error leaves
 -- all.
 abbrev pub GivesFirst : List Pair → Result (Option Pair) DbError → (List Pair → Type 0) → Type 0
 GivesFirst rest (Ok None) Left = (rest ≡ []) × Left []
 GivesFirst rest (Ok (Some pair)) Left = (more : List Pair) × (rest ≡ pair ∷ more) × Left more
 GivesFirst rest (Err e) Left = Left rest
 
--- A walk that has something left is refused as a read is.
+-- An iteration that has something left fails as a read does.
 abbrev pub RefusesWalk : Machine → DbError → Machine → Type 0
 RefusesWalk old e new = MatchOption (not_serving (status_of old)) (ReadRefused old e new) (λ cause. (e ≡ cause) × (new ≈ old))
 
@@ -132,18 +132,18 @@ pub record Steps (order : Order) (old : Machine) (before : RangeWalk) (result : 
   pub refused : IfErr result (λ e. (rest : List Pair) → HasLeft order old before rest → RefusesWalk old e new)
   pub others : OnlyWalks before.id old new
 
--- it is the same walk, over the same keys
+-- it is the same iteration, over the same keys
 abbrev pub SameWalk : RangeWalk → RangeWalk → Type 0
 SameWalk old new = (new.id ≡ old.id) × (new.keys ≡ old.keys)
 
 -- ---- several steps
 
--- They are refused as one is, and where there is no memory for what came.
+-- They fail as one does, and also out of memory for what came.
 abbrev pub RefusesFill : Machine → DbError → Machine → Type 0
 RefusesFill old e new = RefusesWalk old e new ⊎ ((e ≡ error.OutOfMemory) × (new ≈ old))
 
--- As many as there are, and no more than this, are put after those that were there. Of a refusal
--- too, those that came are put there, and the others are left.
+-- As many as there are, and no more than this, are appended to those that were there. If it fails,
+-- those that came are there too, and the others are left.
 pub record Fills (order : Order) (limit : ℕ) (old : Machine) (before : RangeWalk) (had : List Pair) (result : Result (Unit {0}) DbError) (new : Machine) (after : RangeWalk) (has : List Pair) : Type 0 where
   pub gives : (rest : List Pair) → HasLeft order old before rest →
       (came left : List Pair) × (has ≡ had ++ came) × (rest ≡ came ++ left) × HasLeft order new after left × OnOk result (came ≡ take limit rest)
@@ -152,7 +152,7 @@ pub record Fills (order : Order) (limit : ℕ) (old : Machine) (before : RangeWa
 
 -- ---- a whole range at once
 
--- an iterator was made and given up
+-- an iterator was made and released
 abbrev pub walked : Machine → Machine
 walked m = without_iterator (record m { last_iterator = m.last_iterator + 1 }) (m.last_iterator + 1)
 
@@ -161,7 +161,7 @@ abbrev pub Scans : Order → Machine → KeyRange → Option ℕ → ℕ → Lis
 Scans order old keys snapshot limit found new =
     (pairs : List Pair) × AreSortedPairs order.cmp (visible old snapshot) pairs × (found ≡ take limit (pairs_within order.cmp keys pairs)) × (new ≈ walked old)
 
--- It is refused as an iterator is, or as a read by the one that was made; none stays either.
+-- It fails as an iterator does, or as a read by the one that was made; none stays either.
 abbrev pub RefusesScan : Order → Machine → Option ℕ → DbError → Machine → Type 0
 RefusesScan order old snapshot e new = Iterates order old snapshot (Refused e) new ⊎ ((between : Machine) × (between ≈ walked old) × ReadRefused between e new)
 

@@ -1,4 +1,4 @@
--- Any open after other calls of the same store, whether it fails or not, whatever they were: what a
+-- Any open after other calls of the same store, whether it fails or not, whatever they were. What a
 -- power loss leaves in its middle is what it left before it.
 use Rattle.std.specs.Prelude.{◌≡◌, ◌⊎◌, ◌<◌, ◌≤◌, ◌++◌, ◌∷◌, [], ℕ, List, false, IsSome, IsTrue, Option, Some, None}
 use Rattle.std.specs.FinMap.{get}
@@ -30,7 +30,7 @@ use Rattle.table_access.specs.Tables.{Seen}
 abbrev pub StaysOrGoes : Facts → Facts → List ℕ → Type 0
 StaysOrGoes old new name = (get new.files name ≡ None) ⊎ ((get new.files name ≡ get old.files name) × (IsKept old name → IsKept new name))
 
--- So is each with a number below this one.
+-- The same for each with a number below this one.
 abbrev pub StayBelow : Facts → Facts → ℕ → Type 0
 StayBelow old new bound = (n : ℕ) → IsNumbered n → n < bound
     → StaysOrGoes old new (name_of (Table n)) × StaysOrGoes old new (name_of (OldTable n)) × StaysOrGoes old new (name_of (Log n))
@@ -39,13 +39,13 @@ StayBelow old new bound = (n : ℕ) → IsNumbered n → n < bound
 abbrev pub NamesManifest : Facts → ℕ → Type 0
 NamesManifest facts number = IsNumbered number × (get facts.files (name_of Current) ≡ Some (name_of (Manifest number) ++ 10 ∷ []))
 
--- So is each since then; and `CURRENT` names no MANIFEST below that number.
+-- The same for each since then; and `CURRENT` names no MANIFEST below that number.
 pub record StaysFound (since now : Facts) (bound : ℕ) : Type 0 where
   pub from : (bound ≡ 0) ⊎ ((number : ℕ) × NamesManifest now number × (bound ≤ number))
   pub each : StayBelow since now bound
 
--- In a call of an open database so is each that was there before its open; and `CURRENT` and the
--- lock's file are as they were.
+-- In a call of an open database the same holds for each that was there before its open; and
+-- `CURRENT` and the lock's file are as they were.
 pub record KeepsFound {K : Type 0} {g : _} (old new : Facts) (db : OpenDb K g) : Type 0 where
   pub current : get new.files (name_of Current) ≡ get old.files (name_of Current)
   pub lock : get new.files lock_name ≡ get old.files lock_name
@@ -95,7 +95,7 @@ NamesOver order source ids (Some db) = (m : Machine) → m.damaged ≡ false →
 abbrev pub SessionNamesManifest : {S K : Type 0} {g : _} → Order → (S → Facts) → Session S K g → Type 0
 SessionNamesManifest order facts session = NamesOver order (seen_in facts session) (ids_of session) (open_in session)
 
--- What a command leaves of the files that one found that is open and isn't broken.
+-- What a command leaves of the files that a database found that is open and isn't broken.
 abbrev pub FoundOver : {K : Type 0} {g : _} → Facts → Facts → Option (OpenDb K g) → Type 0
 FoundOver old new None = Unit {0}
 FoundOver old new (Some db) = db.broken ≡ false → KeepsFound old new db

@@ -1,4 +1,4 @@
--- What a process crash of the process leaves in the middle of a command, and of a run.
+-- What a process crash leaves in the middle of a command, and of a run.
 use Rattle.std.specs.Prelude.{◌≡◌, ◌⊎◌, false, List, [], ◌∷◌, MatchBool, IsTrue}
 use Rattle.batch.specs.declared.operation.Operation.{Operation}
 use Rattle.store.specs.Files.{Facts, Files}
@@ -20,8 +20,8 @@ use Rattle.engine.specs.declared.session.Session.{Session}
 
 -- ---- the files that are left
 
--- Of what was accepted; and where a database is open that isn't broken, with this batch as a whole
--- or without it.
+-- Of what was accepted. If a database is open that isn't broken, with this batch as a whole or
+-- without it.
 abbrev pub LeftByWrite : Order → Machine → List Operation → Files → Type 0
 LeftByWrite order m operations files =
     MatchBool m.broken (HoldsAccepted order files m)
@@ -85,6 +85,6 @@ abbrev pub DbStops : {S K : Type 0} {g : _} → Order → (S → Facts) → Db S
 DbStops order facts old new =
     IsTrue (facts (db_store_of new)).faithful → (m : Machine) → m.damaged ≡ false → StandsDb order facts old m → StopsKeeping order m (facts (db_store_of old)) (facts (db_store_of new))
 
--- And its open.
+-- And the same of its open.
 abbrev pub OpenStops : Order → Facts → Facts → Ids → Type 0
 OpenStops order old new ids = IsTrue new.faithful → (m : Machine) → m.damaged ≡ false → StandsClosed order old ids m → StopsKeeping order m old new

@@ -15,7 +15,7 @@ use Rattle.engine.specs.OpenDb.{OpenDb}
 use Rattle.opening.specs.Durable.{IsSynced, KeepsForeign, LeavesDurable, LeavesFile}
 use Rattle.opening.specs.Losses.{IsNoneOf}
 
--- whether it was refused
+-- whether it failed
 abbrev pub unit_result : Answer → Result (Unit {0}) DbError
 unit_result (Refused e) = Err e
 unit_result _ = Ok tt
@@ -26,8 +26,8 @@ done = Ok tt
 
 -- ---- a write
 
--- What was put after the file of this name is synced where that was asked for. Those before it are
--- synced wherever something was put there; nothing else is.
+-- What was put after the file of this name is synced if that was asked for. The files before it are
+-- synced whenever something was put there; nothing else is.
 pub record SyncsLog {T E : Type 0} (some asked : Type 0) (sync : Bool) (name : List ℕ) (front : List (List ℕ)) (old new : Facts) (result : Result T E) : Type 0 where
   pub kept : IsTrue new.faithful → asked → OnOk result (IsSynced new name)
   pub front_kept : IsTrue new.faithful → some → IsNoneOf name front → OnOk result (AllByRecursion (IsSynced new) front)
@@ -36,7 +36,7 @@ pub record SyncsLog {T E : Type 0} (some asked : Type 0) (sync : Bool) (name : L
   pub refused : IsTrue new.faithful → OnErr result ((q : List ℕ) → IsNoneOf q front → new.synced q ≡ old.synced q)
   pub locked : new.locked ≡ old.locked
 
--- a write that has operations puts something there, and asks for it where it is to be synced
+-- a write that has operations puts something there, and asks for a sync if it is to be synced
 abbrev pub PutsSome : List Operation → Type 0
 PutsSome operations = operations ≢ []
 
@@ -55,13 +55,13 @@ front_of (Some state) = map string_bytes state.log.front.items
 
 -- ---- open and close
 
--- how many failures of the store a refusal tells of, at least
+-- how many failures of the store an error tells of, at least
 abbrev pub told_failures : DbError → ℕ
 told_failures Io = 1
 told_failures _ = 0
 
 -- An open that succeeds holds the lock. One that fails doesn't, unless it was held before or the
--- store failed to release it: then it failed once more than the refusal tells.
+-- store failed to release it: then it failed once more than the error tells.
 pub record Locks {T : Type 0} (old new : Facts) (result : Result T DbError) : Type 0 where
   pub locked : OnOk result (new.locked ≡ true)
   pub freed : IfErr result (λ e. new.locked ≡ true → (old.locked ≡ true) ⊎ (old.failures + told_failures e < new.failures))
@@ -87,15 +87,15 @@ pub record LeavesStore (old new : Facts) : Type 0 where
   pub locked : new.locked ≡ old.locked
   pub calls : KeepsCalls old new
 
--- A close changes no file either, and gives the lock back.
+-- A close changes no file either, and releases the lock.
 pub record ClosesStore (old new : Facts) : Type 0 where
   pub files : IsTrue new.faithful → new.files ≡ old.files
   pub synced : IsTrue new.faithful → new.synced ≡ old.synced
   pub freed : Frees old new
   pub calls : KeepsCalls old new
 
--- An open leaves `CURRENT` and its MANIFEST synced whole wherever it changed them, and the files of
--- other programs alone, also one that is refused.
+-- An open leaves `CURRENT` and its MANIFEST synced whole whenever it changed them, and leaves the
+-- files of other programs alone, also if it fails.
 pub record OpensStore {T : Type 0} (old new : Facts) (result : Result T DbError) : Type 0 where
   pub locks : Locks old new result
   pub lock_file : HasLockFile old new result

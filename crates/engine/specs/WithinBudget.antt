@@ -1,5 +1,5 @@
 -- How far a call of work brings a compaction: by as many entries as its budget has, and to its end
--- where no more are left.
+-- if no more are left.
 use Rattle.std.specs.Prelude.{◌≡◌, ◌⊎◌, ◌<◌, ◌≤◌, ℕ, false, IsTrue, IsSome, Option, None, List, length, max, MatchOption, Result, Ok}
 use Rattle.coding.specs.declared.error.DbError.{DbError}
 use Rattle.cursor.specs.Places.{Cmp}
@@ -33,7 +33,7 @@ abbrev pub HasLeftAbove : {K : Type 0} {g : _} → Order → Seen → OpenDb K g
 HasLeftAbove order source db most =
     MatchOption db.job ⊥ (λ work. (d : Directory) (came left : List InternalEntry) → CanStep order (whole_of source db) db.directory.numbers.next d work came left → most < length left)
 
--- So many at most where none is under way then, and more where one is.
+-- So many at most if none is under way then, and more if one is.
 abbrev pub HasLeftBy : {K : Type 0} {g : _} → Order → Seen → OpenDb K g → ℕ → Option (OpenJob K g) → Type 0
 HasLeftBy order source db most job = MatchOption job (HasLeftUpTo order source db most) (λ work. HasLeftAbove order source db most)
 
@@ -55,13 +55,13 @@ pub record IsBeforeStep {K : Type 0} {g : _} (order : Order) (options : OptionVa
   pub files : KeepsTableFiles order old between before
   pub job : (mid.job ≡ before.job) ⊎ ((before.job ≡ None) × MatchOption mid.job ⊥ (IsNewJob order.cmp options before))
 
--- It came through one in which so much was left, and where the compaction is at its end, this is
--- what has become of it.
+-- It came through one in which so much was left, and if the compaction is at its end, this is what
+-- has become of it.
 abbrev pub StepsBy : {K : Type 0} {g : _} → Order → OptionValues → Seen → Seen → OpenDb K g → OpenDb K g → ℕ → Type 0
 StepsBy {K} {g} order options old new before after most =
     (between : Seen) × (mid : OpenDb K g) × IsBeforeStep order options old between before mid × HasLeftBy order between mid most after.job × (after.job ≡ None → PutsMerged order between new mid after)
 
--- Where it went on with a compaction, or began one, that is at its end exactly where no more were
+-- It went on with a compaction, or began one. That is at its end exactly if no more entries were
 -- left than its budget has, one for 0.
 abbrev pub EndsWithin : {K : Type 0} {g : _} → Order → OptionValues → ℕ → Seen → Seen → OpenDb K g → OpenDb K g → Result Progress DbError → Type 0
 EndsWithin order options budget old new before after result =

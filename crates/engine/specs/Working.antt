@@ -82,12 +82,12 @@ pub record BeginsJob {K : Type 0} {g : _} (cmp : Cmp) (options : OptionValues) (
   pub picked : IsPicked cmp options.level0_files options.base_bytes (version_of before) plan
   pub begun : MatchOption after.job (ReplacesInputs plan before.tables after.tables) (λ work. (work.job.plan ≡ plan) × (work.merged ≡ shown (max budget 1)) × IsForLive work before × (after.tables ≡ before.tables))
 
--- That is so where nothing else was to be done.
+-- That is so if nothing else was to be done.
 pub record Begins {K : Type 0} {g : _} (cmp : Cmp) (options : OptionValues) (budget : ℕ) (before after : OpenDb K g) : Type 0 where
   pub ease : IsAtEase options before
   pub job : BeginsJob cmp options budget before after
 
--- Where it is, and no level wants a compaction, there is no work.
+-- If it is, and no level wants a compaction, there is no work.
 pub record HasNoWork {K : Type 0} {g : _} (options : OptionValues) (db : OpenDb K g) : Type 0 where
   pub ease : IsAtEase options db
   pub unwanted : (level : ℕ) → WantsCompaction options db level → ⊥
@@ -116,8 +116,8 @@ IsLiveIn files db file = IsLiveAmong files (numbers_of db.directory) (λ number.
 abbrev pub HasLiveOnly : {K : Type 0} {g : _} → Files → OpenDb K g → Type 0
 HasLiveOnly files db = (file : FileName) → IsFileName file → contains_key files (name_of file) ≡ true → IsLiveIn files db file
 
--- Each file, and what of it is synced, is as before; or it is of a known shape and not live, and is
--- gone. So live files and files of other programs stay.
+-- Each file, and what of it is synced, is as before; or it is of a known shape and obsolete, and is
+-- gone. So files in use and files of other programs stay.
 abbrev pub LosesDead : {K : Type 0} {g : _} → Facts → Facts → OpenDb K g → Type 0
 LosesDead old new db = (name : List ℕ) → LeavesFile old new name ⊎ (IsDead (IsLiveIn old.files db) name × (get new.files name ≡ None))
 
