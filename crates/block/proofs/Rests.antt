@@ -19,7 +19,7 @@ abbrev pub RestOf : (List ℕ → List ℕ → Type 0) → ℕ → List ℕ → 
 RestOf below offset previous waiting rest =
     (pairs : List Pair) × (later : List ℕ) × (waiting ≡ flat_map fixed32 later) × AreEntries offset previous pairs later rest × AreAbove below (key_before offset previous) pairs
 
--- and the last of their keys is this one, where there is one, or else the one before
+-- and the last of their keys is this one, if there is one, or else the one before
 abbrev pub RestEnds : (List ℕ → List ℕ → Type 0) → ℕ → List ℕ → List ℕ → List ℕ → List ℕ → Type 0
 RestEnds below offset previous waiting rest last = (h : RestOf below offset previous waiting rest) × (last_key_from previous h.0 ≡ last)
 

@@ -4,7 +4,7 @@ use Rattle.std.specs.List.{AllByRecursion}
 use Rattle.std.specs.Option.{ForSome}
 use Rattle.ikey.specs.Entries.{Pair}
 
--- the key is above the one bound, where there is one, and not above the other
+-- the key is above the one bound, if there is one, and not above the other
 pub record IsBetween (below : List ℕ → List ℕ → Type 0) (floor : Option (List ℕ)) (most key : List ℕ) : Type 0 where
   pub above : ForSome floor (λ (bound : List ℕ). below bound key)
   pub within : (key ≡ most) ⊎ below key most

@@ -8,7 +8,7 @@ pub record Placed : Type 0 where
   pub pairs : List Pair
   pub place : Option ℕ
 
--- the index, where the list has it
+-- the index, if the list has it
 abbrev pub within : List Pair → ℕ → Option ℕ
 within pairs index = if nat_lt index (length pairs) then Some index else None
 

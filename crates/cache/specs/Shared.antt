@@ -11,7 +11,7 @@ use Rattle.cache.specs.declared.slot.Slot.{Slot}
 abbrev pub blocks_in : List (Slot × Rc Contents Global) → List KeptBlock
 blocks_in entries = map (λ e. kept_block e.0.file e.0.index e.1.value.pairs) entries
 
--- what is kept in a cache of pairs, where there is one
+-- what is kept in a cache of pairs, if there is one
 abbrev pub blocks_of : Option (LruCache Slot (Rc Contents Global)) → BlockCache
 blocks_of None = record { blocks = []; capacity = 0 }
 blocks_of (Some cache) = record { blocks = blocks_in cache.entries; capacity = cache.cap }

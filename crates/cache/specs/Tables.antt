@@ -27,8 +27,8 @@ pub record ReadsBlock (cmp : List ℕ → List ℕ → Ordering) (table : Opened
   pub refused : IfErr answer (λ e. Refuses e old new table.name (λ file. IsTornAt cmp file table.frame.places index)
       (λ file. IsUnsupportedAt file table.frame.places index))
 
--- The bytes of a table: of the file that ends in `.ldb` or, where there is none, of the one that
--- ends in `.sst`, as older writers named it.
+-- The bytes of a table: of the file that ends in `.ldb` or, if there is none, of the one that ends
+-- in `.sst`, as older writers named it.
 abbrev pub table_at : Files → ℕ → Option (List ℕ)
 table_at files number = option_or (get files (name_of (Table number))) (get files (name_of (OldTable number)))
 
@@ -55,7 +55,7 @@ pub record TableCache : Type 0 where
 abbrev pub tables_in : List (ℕ × Rc Opened Global) → List KeptTable
 tables_in entries = map (λ e. kept_table e.0 e.1.value) entries
 
--- what is kept in a cache of pairs, where there is one
+-- what is kept in a cache of pairs, if there is one
 abbrev pub tables_of : Option (LruCache ℕ (Rc Opened Global)) → TableCache
 tables_of None = record { tables = []; capacity = 0 }
 tables_of (Some cache) = record { tables = tables_in cache.entries; capacity = cache.cap }
@@ -137,6 +137,6 @@ pub record OpensTable (cmp : List ℕ → List ℕ → Ordering) (old new : Fact
   pub named : IfOk answer (λ table. IsNameOf number table.name)
   pub stood : IfOk answer (λ _. new.failures ≡ old.failures)
   pub told : IfErr answer (λ e. RefusesTable e old new number (IsFrameDamaged cmp) IsFrameUnsupported)
-  -- a frame is refused only where one of its blocks is too long
+  -- a frame is refused only if one of its blocks is too long
   pub refused : IfErr answer (λ e. RefusesTable e old new number (λ file. (frame : Frame) → IsFrame cmp file frame → ⊥)
       (λ file. (frame : Frame) (is : IsFrame cmp file frame) → IsOversized cmp file frame is))

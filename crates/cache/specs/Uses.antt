@@ -18,6 +18,6 @@ module _ {X : Type 0} (test : X → Bool) where
   when_used xs = option_map_or (λ x. x ∷ all_others xs) (first_that xs) xs
 
   -- What is put goes first: in the place of the one that passes, or before as many as there is room
-  -- for. Where there is no memory for it nothing changes.
+  -- for. If there is no memory for it nothing changes.
   abbrev pub IsPutFirst : List X → List X → ℕ → X → Type 0
   IsPutFirst old new capacity x = (new ≡ old) ⊎ (new ≡ x ∷ all_others old) ⊎ (new ≡ x ∷ take (capacity - 1) old)

@@ -22,7 +22,7 @@ ComesBehind cmp entries next = (entry : Entry) → Among entries entry → Prece
 -- ---- what is kept between two entries
 
 pub record Choosing : Type 0 where
-  -- the sequence numbers whose views are to be kept, none below the one before
+  -- the sequence numbers whose views must be kept, none below the one before
   pub snapshots : List ℕ
   -- the user key at hand
   pub key : List ℕ

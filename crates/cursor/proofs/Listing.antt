@@ -45,8 +45,8 @@ module _ (cmp : Cmp) (total : IsTotalOrder cmp) (exact : IsAntisymmetric cmp) (s
     behind_x : (e : InternalEntry) → Among rest e → key_cmp cmp x.key e.key ≡ Less
     behind_x e m = all_among (λ (later : InternalEntry). key_cmp cmp x.key later.key ≡ Less) rest e rises.0 m
 
-    -- what is visible after the entry is visible with it, where it isn't one of its user key that
-    -- is seen
+    -- what is visible after the entry is visible with it, if it isn't one of its user key that is
+    -- seen
     more : (e : InternalEntry) → (x.key.user ≡ e.key.user → x.key.sequence ≤ sequence → ⊥) → IsVisible rest sequence e → IsVisible (x ∷ rest) sequence e
     more e apart v = (
       record {

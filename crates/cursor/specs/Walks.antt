@@ -43,8 +43,8 @@ value_at_hand {K} {C} stands walk = at_hand walk.position
     at_hand Behind = true
     at_hand Astray = false
 
--- What a move of a walk leads to: the place where it leads, or, where it is refused, the place that
--- there was.
+-- What a move of an iteration leads to: the place where it leads, or, where it is refused, the
+-- place that there was.
 abbrev pub walk_after : {T : Type 0} → Result T DbError → Option ℕ → Walked → Walked
 walk_after (Ok done) to at = record at { place = to }
 walk_after (Err error) to at = at

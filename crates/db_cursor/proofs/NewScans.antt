@@ -259,7 +259,7 @@ seen_current cmp memory sequence = seen_entries cmp memory.current.inserts seque
 abbrev pub seen_sealed : Cmp → Memories → ℕ → List InternalEntry
 seen_sealed cmp memory sequence = seen_entries cmp (sealed_inserts memory) sequence
 
--- that of the sealed table, where there is one, before others
+-- that of the sealed table, if there is one, before others
 abbrev pub in_front : Cmp → Memories → ℕ → Option ℕ → List (List InternalEntry) → List (List InternalEntry)
 in_front cmp memory sequence None lists = lists
 in_front cmp memory sequence (Some named) lists = seen_sealed cmp memory sequence ∷ lists

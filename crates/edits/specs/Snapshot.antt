@@ -10,7 +10,7 @@ use Rattle.edits.specs.Edit.{IsEdit, IsInternal, IsTableProper, IsPlacedBefore}
 
 -- ---- what the layouts that edits leave have in common
 
--- an internal key that an edit can hold, where there is one
+-- an internal key that an edit can hold, if there is one
 abbrev pub IsPointer : Option (List ℕ) → Type 0
 IsPointer None = Unit {0}
 IsPointer (Some key) = (length key < 2 ^ 32) × IsInternal key

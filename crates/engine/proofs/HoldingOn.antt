@@ -326,7 +326,7 @@ module _ (order : Order) (old : Files) (found : Found) (rewrite : Rewrite) (usab
       had_log : (n : ℕ) → IsNumbered n → contains_key before (name_of (Log n)) ≡ true → contains_key old (name_of (Log n)) ≡ true
       had_log n num here = (let at = some_of (get before (name_of (Log n))) here in ap is_some (begin n at.0 num at.1).1)
 
-      -- Its logs, or none where they have no entries.
+      -- Its logs, or none if they have no entries.
       abbrev KeepsRead : Type 0
       KeepsRead = (logs : List LogContent) × HasLiveLogs after w.layout logs × (logged logs ≡ logged c.logs)
 

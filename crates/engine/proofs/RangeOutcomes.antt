@@ -1,4 +1,4 @@
--- What holds of a step of a walk over any store.
+-- What holds of a step of an iteration over any store.
 use Rattle.std.proofs.Common.{◌≡◌, Ok, Err}
 use Rattle.coding.specs.declared.error.DbError.{DbError}
 use Rattle.coding.specs.declared.error.DbError.TheVariants as error

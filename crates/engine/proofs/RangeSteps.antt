@@ -1,4 +1,4 @@
--- Steps of a walk over a range: what a move of its iterator makes of it.
+-- Steps of an iteration over a range: what a move of its iterator makes of it.
 use Rattle.std.proofs.Common.{◌≡◌, ℕ, ◌+◌, Bool, true, false, cond, List, [], ◌∷◌, drop, Option, Some, None, is_some, Ok, MatchBool, MatchOption, unwrap_or, inl, inr, refl, sym, ap, subst, ◌∙◌}
 use Rattle.std.specs.Bool.{nat_eq}
 use Rattle.std.specs.Cmp.{IsTotalOrder}
@@ -132,7 +132,7 @@ pub same_settled : (cmp : Cmp) (walk next : RangeWalk) (found result : Option Pa
 same_settled cmp walk next None result h = (ap (λ (w : RangeWalk). w.id) h.1, ap (λ (w : RangeWalk). w.keys) h.1)
 same_settled cmp walk next (Some pair) result h = same_if (is_before_end cmp walk.keys.to pair.0) walk next result pair h
 
--- where the iterator of a walk that isn't over is moved
+-- where the iterator of an iteration that isn't over is moved
 start_place : (cmp : Cmp) (from : Option (List ℕ)) (at : Walk) → place_after cmp (start_motion from) at ≡ place_at at.pairs (start_of cmp from at.pairs)
 start_place cmp None at = refl
 start_place cmp (Some from) at = refl

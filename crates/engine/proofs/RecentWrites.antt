@@ -40,8 +40,7 @@ all_pushed : {X : Type 0} (P : X → Type 0) (xs : List X) (x : X) → AllByRecu
 all_pushed P [] x h p = (p, tt)
 all_pushed P (y ∷ xs) x h p = (h.0, all_pushed P xs x h.1 p)
 
--- The last of the logs is one of the others, where there are any: those that were found lie before
--- it.
+-- The last of the logs is one of the others, if there are any: those that were found lie before it.
 pub record BehindFound (front found others : List LogContent) (last : LogContent) : Type 0 where
   pub since : List LogContent
   pub in_front : front ≡ found ++ since

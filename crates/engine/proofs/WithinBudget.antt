@@ -1,4 +1,4 @@
--- That a step ends a compaction exactly where no more entries are left than its budget has.
+-- That a step ends a compaction exactly if no more entries are left than its budget has.
 use Rattle.std.proofs.Common.{◌≡◌, ◌++◌, ◌≤◌, ◌<◌, ℕ, Bool, true, false, List, [], ◌∷◌, length, max, Option, Some, None, IsSome, IsTrue, MatchOption, inl, inr, refl, sym, ap, subst, ◌∙◌, arith, append-nil}
 use Rattle.std.proofs.lemmas.List.{length-append}
 use Rattle.std.specs.FinMap.{contains_key, get}

@@ -38,7 +38,7 @@ RefusesLook order e old new = RefusesDirectory e old new (IsDamaged order old.fi
 
 -- ---- what is in memory
 
--- The memory has these entries, sealed where there are some, and this last sequence number.
+-- The memory has these entries, sealed if there are some, and this last sequence number.
 pub record IsSealedOf (memory : Memories) (entries : List Entry) (used : ℕ) : Type 0 where
   pub sealed : sealed_inserts memory ≡ entries
   pub unsealed : entries ≡ [] → memory.sealed ≡ None

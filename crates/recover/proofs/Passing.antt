@@ -290,7 +290,7 @@ begins order files placed walk key first at count smallest is user sequence = by
           (key, subst (λ (k : List ℕ). IsKey k key) smallest here_key, refl, refl),
         )
 
--- ---- the steps of a walk
+-- ---- the steps of an iteration
 
 module _ {K : Type 0} (order : Order) (o : IsTotalOrder order.cmp) (files : Files) (placed : PlacedTable) (walk : TableWalk K) (passed : List Entry) (here : Entry) (h : Passes order files placed walk passed here) where
   abbrev Pairs : List Pair

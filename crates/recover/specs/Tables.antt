@@ -19,8 +19,8 @@ use Rattle.ikey.specs.Views.{Among}
 abbrev pub IsTableFile : Order → List ℕ → List Entry → Type 0
 IsTableFile order bytes entries = (kept : List InternalEntry) × IsTable order.cmp bytes kept × (entries ≡ map entry_of kept)
 
--- The bytes of a table: of the file that ends in `.ldb` or, where there is none, of the one that
--- ends in `.sst`, as older writers named it.
+-- The bytes of a table: of the file that ends in `.ldb` or, if there is none, of the one that ends
+-- in `.sst`, as older writers named it.
 abbrev pub table_at : Files → ℕ → Option (List ℕ)
 table_at files number = option_or (get files (name_of (Table number))) (get files (name_of (OldTable number)))
 

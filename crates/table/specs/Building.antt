@@ -59,7 +59,7 @@ abbrev pub length_at_hand : List Pair → ℕ
 length_at_hand [] = 0
 length_at_hand (pair ∷ pairs) = data_length (pair ∷ pairs)
 
--- the bytes of the data blocks, with those of the one at hand where it has an entry
+-- the bytes of the data blocks, with those of the one at hand if it has an entry
 abbrev pub data_size : Building → ℕ
 data_size b = b.offset + length_at_hand b.block
 

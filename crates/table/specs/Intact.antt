@@ -10,8 +10,8 @@ use Rattle.table.specs.Refusals.{IsUnsupported}
 use Rattle.table.specs.Table.{HasBlock, IsAtMost}
 use Rattle.table.specs.declared.handle.Place.{Place}
 
--- A pair of a block: its key is an internal key above the bound of the block in front, where there
--- is one, and not above its own.
+-- A pair of a block: its key is an internal key above the bound of the block in front, if there is
+-- one, and not above its own.
 pub record IsWithin (cmp : List ℕ → List ℕ → Ordering) (floor : Option (List ℕ)) (most : List ℕ) (pair : Pair) : Type 0 where
   pub key : Key
   pub is : IsKey pair.key key
@@ -49,7 +49,7 @@ IsUnsupportedAt file places index = (place : Place) × (slice_get places index �
 abbrev pub IsTornAt : (List ℕ → List ℕ → Ordering) → List ℕ → List Place → ℕ → Type 0
 IsTornAt cmp file places index = ((pairs : List Pair) → IsIntact cmp file places index pairs → ⊥) × (IsUnsupportedAt file places index → ⊥)
 
--- its first key is an internal key, where there is one
+-- its first key is an internal key, if there is one
 abbrev pub BeginsWithKey : List Pair → Type 0
 BeginsWithKey [] = Unit {0}
 BeginsWithKey (pair ∷ pairs) = (key : Key) × IsKey pair.key key

@@ -18,7 +18,7 @@ module _ (cmp : Cmp) (inserts : List Entry) (sequence : ℕ) (start : Option ℕ
         → (before : List Placed) × (behind : List Placed) × (ordered cmp inserts ≡ before ++ behind) × (at ≡ first_of behind) × (up_to sequence behind ≡ up_to sequence back)
         × (length behind + steps ≤ length inserts)
 
-  -- the same of a walk back
+  -- the same of an iteration back
   pub record HasComeBack (at : Option ℕ) (steps : ℕ) : Type 0 where
     pub place : IfSome at (IsPlace inserts)
     pub rest : (front back : List Placed) → ordered cmp inserts ≡ front ++ back → start ≡ last_of front

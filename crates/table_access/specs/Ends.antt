@@ -9,7 +9,7 @@ use Rattle.table.specs.Frame.{Frame, IsFrame}
 use Rattle.table.specs.Intact.{IsIntact}
 use Rattle.table.specs.declared.handle.Place.{Place}
 
--- the first pair has this key, where there is one
+-- the first pair has this key, if there is one
 abbrev pub BeginsAt : List ℕ → List Pair → Type 0
 BeginsAt key pairs = (pair : Pair) → slice_get pairs 0 ≡ Some pair → pair.key ≡ key
 

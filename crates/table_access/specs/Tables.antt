@@ -67,7 +67,7 @@ pub record HasSoundTable (cmp : Cmp) (source : Seen) (number : ℕ) (file : List
   pub sound : IsSound cmp source
   pub file_is : table_at source.facts.files number ≡ Some file
 
--- of a faithful store, this is so of the table of this number, where there is one
+-- of a faithful store, this is so of the table of this number, if there is one
 abbrev pub SaysOf : Cmp → Seen → Seen → ℕ → (List ℕ → Type 0) → Type 0
 SaysOf cmp old new number is = IsTrue new.facts.faithful → (file : List ℕ) → HasSoundTable cmp old number file → is file
 

@@ -21,7 +21,7 @@ spot_of (Row cursor) = OfRow cursor.version.value.tables cursor.from cursor.end 
 abbrev pub place_in : ℕ → ℕ → MemoriesPlace
 place_in sequence generation = record { generation = generation; place = record { sequence = sequence; node = None; key = [] } }
 
--- over the current memtable, and over the sealed one, where there is one
+-- over the current memtable, and over the sealed one, if there is one
 abbrev pub memory_spots : ℕ → ℕ → Option ℕ → List Spot
 memory_spots sequence generation None = OfMemory (place_in sequence generation) ∷ []
 memory_spots sequence generation (Some sealed) = OfMemory (place_in sequence generation) ∷ OfMemory (place_in sequence sealed) ∷ []

@@ -65,7 +65,7 @@ RefusesVersion OutOfMemory astray = Unit {0}
 RefusesVersion (Corrupt file what) astray = astray
 RefusesVersion e astray = ⊥
 
--- Why a table wasn't made ready: Corrupt only where the version has a table of the number that is
+-- Why a table wasn't made ready: Corrupt only if the version has a table of the number that is
 -- drawn, and Unsupported only where a block would be too long.
 abbrev pub RefusesNewTable : DbError → Facts → Facts → List Entry → List PlacedTable → ℕ → ℕ → Type 0
 RefusesNewTable OutOfMemory old new entries tables next after = new.failures ≡ old.failures

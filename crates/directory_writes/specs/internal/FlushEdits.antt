@@ -6,7 +6,7 @@ use Rattle.edits.specs.declared.field.TableFile.{TableFile}
 use Rattle.edits.specs.declared.layout.Layout.{Layout}
 use Rattle.edits.specs.Layout.{inserted}
 
--- a previous log is given up, where there is one
+-- a previous log is given up, if there is one
 abbrev pub previous_gone : ℕ → List Field
 previous_gone number = if number == 0 then [] else PreviousLogNumber 0 ∷ []
 

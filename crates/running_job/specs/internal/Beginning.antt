@@ -60,8 +60,8 @@ RefusesBegin order tables plan old new e = RefusesEntry e old.seen.facts new.see
     (IsTrue new.seen.facts.faithful → (next : ℕ) (d : Directory) → CanBegin order old next tables d → IsOnePastLimit order.cmp plan.inputs.items old)
     ⊥
 
--- Whichever contents the inputs may have, Corrupt only where no edit could name the plan, or the
--- first block of an input is torn.
+-- Whichever contents the inputs may have, Corrupt only if no edit could name the plan, or the first
+-- block of an input is torn.
 abbrev pub BeginTears : Order → JobPlan → Whole → Whole → DbError → Type 0
 BeginTears order plan old new e = IfCorrupt e (IsTrue new.seen.facts.faithful → (next : ℕ) (contents : List TableContent) → MayBegin order old next plan contents
     → IsPlanProper plan → IsOneTornFile order.cmp plan.inputs.items old Front)

@@ -77,7 +77,7 @@ RefusesStep order old new next more before e = RefusesEntry e old.seen.facts new
     → IsOnePastLimit order.cmp before.job.plan.inputs.items old ⊎ AreLarge (map entry_of (came ++ left)))
     (2 ^ 62 ≤ more)
 
--- Whichever contents its inputs may have, Corrupt only where a block is torn to which it comes.
+-- Whichever contents its inputs may have, Corrupt only if a block is torn to which it comes.
 abbrev pub StepTears : {K : Type 0} {g : _} → Order → Whole → Whole → ℕ → OpenJob K g → DbError → Type 0
 StepTears order old new next before e = IfCorrupt e (IsTrue new.seen.facts.faithful → (contents : List TableContent) (came left : List InternalEntry)
     → MayRun order old next contents before came left → IsMergeIntact order.cmp before.job.cursor old → ⊥)
