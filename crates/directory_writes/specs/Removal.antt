@@ -1,4 +1,4 @@
--- Which files of a directory are live (LevelDB's db/db_impl.cc, DBImpl::RemoveObsoleteFiles).
+-- Which files of a directory are in use (LevelDB's db/db_impl.cc, DBImpl::RemoveObsoleteFiles).
 use Rattle.std.specs.Prelude.{◌≡◌, ◌⊎◌, ◌≤◌, ℕ, true, List}
 use Rattle.std.specs.FinMap.{contains_key}
 use Rattle.store.specs.Files.{Files}

@@ -42,7 +42,7 @@ IsDurableAt n facts =
 abbrev pub IsDurable : Facts → Type 0
 IsDurable facts = (n : ℕ) × IsDurableAt n facts
 
--- The same holds after an open, and after one that was refused wherever `CURRENT` has changed.
+-- The same holds after an open, and after one that failed wherever `CURRENT` has changed.
 pub record LeavesDurable {T : Type 0} (old new : Facts) (result : Result T DbError) : Type 0 where
   pub ok : IsTrue new.faithful → OnOk result (IsDurable new)
   pub err : IsTrue new.faithful → OnErr result (LeavesFile old new (name_of Current) ⊎ IsDurable new)

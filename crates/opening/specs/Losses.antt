@@ -63,8 +63,8 @@ IsLeftWhole facts lost name = IsKept facts name ⊎ IsWholeOrGone facts.files lo
 abbrev pub IsTableKept : Facts → ℕ → Type 0
 IsTableKept facts number = IsKept facts (name_of (Table number)) × (get facts.files (name_of (Table number)) ≡ None → IsKept facts (name_of (OldTable number)))
 
--- So is all that a directory of these parts reads: `CURRENT`, its MANIFEST, its logs in use, and
--- its tables but for those that the loss has left.
+-- The same for all that a directory of these parts reads: `CURRENT`, its MANIFEST, its logs in use,
+-- and its tables except those that the loss has left.
 pub record IsKeptWhole (facts : Facts) (lost : Files) (d : Directory) : Type 0 where
   pub current : IsKept facts (name_of Current)
   pub manifest : IsKept facts (name_of (Manifest d.manifest))
@@ -166,8 +166,8 @@ IsButLock P files = (beside : Files) × ((name : List ℕ) → name ≢ lock_nam
 
 -- ---- in each directory that differs in tables alone
 
--- So is all that such a directory reads, and its tables but for those that the same loss has left
--- there.
+-- The same for all that such a directory reads, and its tables except those that the same loss has
+-- left there.
 pub record IsKeptOver (facts : Facts) (whole after : Files) (d : Directory) : Type 0 where
   pub current : IsKept facts (name_of Current)
   pub manifest : IsKept facts (name_of (Manifest d.manifest))

@@ -47,7 +47,7 @@ IsReadError (error.Corrupt file what) = Unit {0}
 IsReadError (error.Unsupported what) = Unit {0}
 IsReadError _ = ⊥
 
--- a move may be so too, and a step for want of a place
+-- a move may fail so too, and a step since it has no place
 abbrev pub MayRefuseMotion : Motion → DbError → Type 0
 MayRefuseMotion motion error.NoPlace = needs_place motion ≡ true
 MayRefuseMotion motion e = IsReadError e

@@ -23,16 +23,16 @@ use Rattle.recover.specs.Report.{IsLongTable, AnyHasBytes}
 abbrev pub IsUnsupportedTable : Order → List ℕ → Type 0
 IsUnsupportedTable order bytes = IsFrameUnsupported bytes ⊎ ((frame : Frame) × IsFrame order.cmp bytes frame × IsOfOne (IsUnsupported bytes) frame.places)
 
--- so has the file of this table
+-- the file of this table has such a block
 abbrev pub IsUnsupportedFile : Order → Files → PlacedTable → Type 0
 IsUnsupportedFile order files placed = (bytes : List ℕ) × (table_at files placed.table.number ≡ Some bytes) × IsUnsupportedTable order bytes
 
--- or of one of these
+-- or that of one of these
 abbrev pub AnyIsUnsupported : Order → Files → List PlacedTable → Type 0
 AnyIsUnsupported order files [] = ⊥
 AnyIsUnsupported order files (placed ∷ tables) = IsUnsupportedFile order files placed ⊎ AnyIsUnsupported order files tables
 
--- Unsupported is answered for this, where the store is faithful.
+-- Unsupported is answered for this, if the store is faithful.
 abbrev pub TellsUnsupported : DbError → Facts → Type 0 → Type 0
 TellsUnsupported (error.Unsupported what) facts is = IsTrue facts.faithful → is
 TellsUnsupported e facts is = Unit {0}
@@ -49,6 +49,6 @@ IsBeyondChecking order files = IsBeyondReading order files
 abbrev pub PassesLimit : Order → Files → Type 0
 PassesLimit order files = (d : Directory) → IsConsistent order files d → HasPastLimit (fields_of d.edits) ⊎ AnyHasBytes (IsLongTable order) files d.tables
 
--- None that they are does.
+-- No consistent directory that they are does.
 abbrev pub IsWithinLimits : Order → Files → Type 0
 IsWithinLimits order files = (d : Directory) → IsConsistent order files d → HasPastLimit (fields_of d.edits) ⊎ AnyHasBytes (IsLongTable order) files d.tables → ⊥

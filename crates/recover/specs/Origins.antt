@@ -48,8 +48,8 @@ abbrev pub IsOriginRead : Order → Files → Layout → Origin → List Entry �
 IsOriginRead order files layout (Table level number) entries = (placed : PlacedTable) × IsPlacedAt layout level number placed × HasTable order files (content_of placed entries)
 IsOriginRead order files layout (Log number) entries = IsLive layout number × ((log : LogContent) × (log.number ≡ number) × HasLog files log × (entries ≡ batch_entries log.batches))
 
--- Where the layout has a table of this origin, the file of one such table has such bytes, if it is
--- whole. Where it has the log live, there is none of this number whose sequence numbers rise.
+-- If the layout has a table of this origin, the file of one such table has such bytes, if it is
+-- whole. If it has the log in use, there is none of this number whose sequence numbers rise.
 abbrev pub IsUnreadable : (List ℕ → Type 0) → Order → Files → Layout → Origin → Type 0
 IsUnreadable is order files layout (Table level number) =
     (placed : PlacedTable) → IsPlacedAt layout level number placed → (read : PlacedTable) × IsPlacedAt layout level number read × IsOnly is order files read
