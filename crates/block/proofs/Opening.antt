@@ -29,7 +29,7 @@ EntriesTo below restarts body last = (pairs : List Pair) × (list : List ℕ) ×
 pub entries_to : (below : List ℕ → List ℕ → Type 0) (restarts body last : List ℕ) → EntriesTo below restarts body last → Entries below restarts body
 entries_to below restarts body last (pairs, list, encoded, entries, rises, ends) = (pairs, list, encoded, entries, rises)
 
--- so of the block that is opened
+-- the same of the block that is opened
 pub last_of_block : (below : List ℕ → List ℕ → Type 0) (bytes body restarts last : List ℕ) → Parts bytes body restarts → EntriesTo below restarts body last → last_key_from [] (pairs_of (take (length body) bytes)) ≡ last
 last_of_block below bytes body restarts last p (pairs, list, encoded, entries, rises, ends) =
     let same : take (length body) bytes ≡ body = ap (take (length body)) p.2 ∙ take_at body (restarts ++ fixed32 p.0) (length body) refl in

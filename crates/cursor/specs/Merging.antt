@@ -41,7 +41,7 @@ IsBeside cmp lists source key list cursor Ahead = lists cursor source (listed li
 IsBeside cmp lists source key list cursor Behind = lists cursor source (listed list (behind (is_below cmp key) list))
 IsBeside cmp lists source key list cursor Astray = (place : Option ℕ) × lists cursor source (listed list place)
 
--- so of each child and its list
+-- the same of each child and its list
 pub record Each {C : Type 0} (children : List (Child C)) (lists : List (List InternalEntry)) (is : ℕ → Child C → List InternalEntry → Type 0) : Type 0 where
   pub same_length : length children ≡ length lists
   pub each : (i : ℕ) (child : Child C) (list : List InternalEntry) → slice_get children i ≡ Some child → slice_get lists i ≡ Some list → is i child list

@@ -25,7 +25,7 @@ pub record Wanders {C S : Type 0} (facts : S → Facts) (lists : C → S → Lis
 abbrev pub PassesLower : Cmp → (List ℕ → Bool) → Type 0
 PassesLower cmp test = (low high : List ℕ) → cmp low high ≡ Less → test high ≡ true → test low ≡ true
 
--- so of each entry before the index, or from it on
+-- the same of each entry before the index, or from it on
 abbrev pub InFront : List InternalEntry → ℕ → (InternalEntry → Type 0) → Type 0
 InFront entries index is = (k : ℕ) (entry : InternalEntry) → k < index → slice_get entries k ≡ Some entry → is entry
 

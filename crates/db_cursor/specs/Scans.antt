@@ -115,7 +115,7 @@ MayBeginScan order tables sequence whole scan = (contents : List TableContent) (
     → IsView (logged_in whole.memory ++ joined (table_sources contents)) sequence view
     → (pairs : List (List ℕ × List ℕ)) × AreSortedPairs order.cmp view pairs × MayBeScan order.cmp scan whole (walked (map listed_pair pairs) None)
 
--- So over the contents that they have, whose blocks are all intact.
+-- The same over the contents that they have, whose blocks are all intact.
 abbrev pub BeginsScan : {K : Type 0} {g : _} → Order → List PlacedTable → ℕ → Whole → Scan K g → Type 0
 BeginsScan order tables sequence whole scan = (contents : List TableContent) (view : Contents) → sequence ≤ whole.memory.last
     → IsSound order.cmp whole.seen → HasVersion order whole.seen.facts.files tables contents → IsNewerThan (logged_in whole.memory) (joined (table_sources contents))

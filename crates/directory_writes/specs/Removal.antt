@@ -22,7 +22,7 @@ IsLiveFile numbers in_use has_both (Temporary n) = ⊥
 abbrev pub HasBoth : Files → ℕ → Type 0
 HasBoth files n = (contains_key files (name_of (Table n)) ≡ true) × (contains_key files (name_of (OldTable n)) ≡ true)
 
--- so of a directory of these files
+-- the same of a directory of these files
 abbrev pub IsLiveAmong : Files → LiveNumbers → (ℕ → Type 0) → FileName → Type 0
 IsLiveAmong files numbers in_use file = IsLiveFile numbers in_use (HasBoth files) file
 

@@ -101,7 +101,7 @@ unowned w tables number none has own = all_at (λ (x : PlacedTable). number ≢ 
 pub all_contains : (P : PlacedTable → Type 0) (tables : List PlacedTable) (placed : PlacedTable) → All P tables → Contains tables placed → P placed
 all_contains P tables placed h at = subst P at.2 (h at.0 placed at.1)
 
--- so of a version that has them
+-- the same of a version that has them
 pub version_unowned : (w : TablesWritten) (order : Order) (files : Files) (d : Directory) (contents : List TableContent) (tables : List PlacedTable) (number : ℕ) → IsConsistent order files d → contents ≡ d.tables → ListsSameTables (placed_in contents) tables
     → OwnsNone w d.layout.tables.items → ListsNumber tables number → IsOwn w number → ⊥
 version_unowned w order files d contents tables number consistent same listed none has own =

@@ -90,7 +90,7 @@ module _ {K : Type 0} {g : _} (order : Order) (total : IsTotalOrder order.cmp) (
       let listed = subst (λ (cs : List TableContent). ListsSameTables (placed_in cs) db.tables) serving.log.directory.in_tables serving.tables.version in
       subst (λ (p : PlacedTable). Contains db.tables p) content.2 (all_contains (Contains db.tables) (placed_in d.tables) content.0.placed listed.all (has_placed d.tables content.0 there))
 
-  -- so of an input that passes one
+  -- the same of an input that passes one
   pub job_limited : IsOnePastLimit order.cmp work.job.plan.inputs.items (whole_of old db) → IsHardToRead m
   job_limited past =
       let placed = past.0 in

@@ -78,7 +78,7 @@ module _ {K : Type 0} {g : _} (order : Order) (source : Seen) (db : OpenDb K g) 
       let at = all_contains (Contains (map (λ (content : TableContent). content.placed) contents)) db.tables placed tables.version.only is in
       from.origins a.directory a.consistent placed (subst (λ (ps : List PlacedTable). Contains ps placed) listed at)
 
-  -- so of one that serves
+  -- the same of one that serves
   pub origins_in : (m : Machine) (serving : IsServing order source db m) → HaveOrigins order.cmp source.facts.files serving.ideal db.tables
   origins_in m serving = origins_of m.damaged serving.ideal serving.contents serving.origin serving.log serving.tables
 

@@ -148,7 +148,7 @@ rests_seen order source db m serving files e good view accounted used =
     ⊎ Means order files (after_batch (current m) operations) (m.used + length operations) (entry_count m + length operations) (weight m + sum_by operation_weight operations)) in
     subst Accepted (sym serving.certain) means
 
--- so is one of the same entries
+-- the same for one of the same entries
 pub rests_as : {K : Type 0} {g : _} (order : Order) (law : SameViewLaw) (source : Seen) (db : OpenDb K g) (m : Machine) (serving : IsServing order source db m) (files : Files) (e : Directory)
     → IsConsistent order files e → SameEntries (entries_of serving.contents db) (entries_in e) → used_in e ≡ db.memory.last → MeansAccepted order files m
 rests_as order law source db m serving files e good same used =

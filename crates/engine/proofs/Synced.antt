@@ -37,7 +37,7 @@ use Rattle.engine.specs.internal.Synced.{HaveNames, HaveStayed, IsSyncedBut}
 pub kept_still : (old new : Facts) (q : List ℕ) → LeavesFile old new q → IsKept old q → IsKept new q
 kept_still old new q left h bytes there = left.1 ∙ h bytes (sym left.0 ∙ there)
 
--- so of a table
+-- the same of a table
 pub table_still : (old new : Facts) (n : ℕ) → LeavesFile old new (name_of (Table n)) → LeavesFile old new (name_of (OldTable n)) → IsTableKept old n → IsTableKept new n
 table_still old new n newer older h = (kept_still old new (name_of (Table n)) newer h.0, λ none. kept_still old new (name_of (OldTable n)) older (h.1 (sym newer.0 ∙ none)))
 
@@ -74,7 +74,7 @@ none_above n bound (name ∷ names) num le h = (
   none_above n bound names num le h.1,
 )
 
--- so of one of a compaction's tables
+-- the same of one of a compaction's tables
 pub whole_left : (old new : Facts) (q : List ℕ) → LeavesFile old new q → (StaysNamed old q → StaysNamed new q) → LeavesWhole old new q
 whole_left old new q left names = (left.0, λ file there was. left.1 ∙ was, names)
 

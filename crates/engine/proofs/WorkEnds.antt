@@ -128,7 +128,7 @@ module _ {K : Type 0} {g : _} (order : Order) (kept : (scan : Scan K g) → Scan
   abbrev BeginsOver : Files → Files → Result (ℕ × String Global) DbError → Type 0
   BeginsOver ideal behind result = BeginsLog order (with_files old.facts ideal) (with_files facts behind) next numbers.next result
 
-  -- so of the one from which the files come
+  -- the same of the one from which the files come
   begins_behind : (result : Result (ℕ × String Global) DbError) → BeginsEach result → (m : Machine) (serving : IsServing order old (open_db memory state) m)
       → BeginsOver serving.ideal (same_change old.facts.files facts.files serving.ideal serving.origin.differs).0 result
   begins_behind result each m serving =

@@ -66,7 +66,7 @@ module _ (old new : Facts) (log : CurrentLog) (state : DirectoryState) (tables :
   abbrev Reads : List (List ℕ) → Type 0
   Reads logs = (n : ℕ) → IsNumbered n → IsLogRead state n → IsNoneOf (name_of (Log n)) logs → IsKept new (name_of (Log n))
 
-  -- so of all tables
+  -- the same of all tables
   tables_as : (placed : PlacedTable) → Contains tables placed → state.manifest.number ≤ placed.table.number → IsTableKept new placed.table.number
   tables_as placed there from =
       let numbered = (h.names.placed placed there).0 in

@@ -14,7 +14,7 @@ use Rattle.engine.specs.Working.{HasLiveOnly}
 abbrev pub OpensTidy : {K : Type 0} {g : _} → Facts → Facts → OpenDb K g → Type 0
 OpensTidy old new db = IsTrue new.faithful → new.failures ≡ old.failures → HasLiveOnly new.files db
 
--- So of a database beside its memtables,
+-- The same of a database beside its memtables,
 abbrev pub IsTidy : {K : Type 0} {g : _} → Facts → Facts → Memories → DbState K g → Type 0
 IsTidy old new memory state = OpensTidy old new (open_db memory state)
 

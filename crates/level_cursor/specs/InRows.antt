@@ -117,7 +117,7 @@ IsOpenLimited (Some here) = AnyLong (handles here.cursor.table.value.frame)
 abbrev pub IsTornFile : Cmp → PlacedTable → List ℕ → Cut → Type 0
 IsTornFile cmp placed file cut = IsFrameDamaged cmp file ⊎ ((frame : Frame) × IsOpenFrame cmp file frame × HasTorn cmp placed file frame cut)
 
--- so is the one that the source has
+-- the same for the one that the source has
 abbrev pub IsTornOne : Cmp → Seen → PlacedTable → Cut → Type 0
 IsTornOne cmp source placed cut = (file : List ℕ) → HasSoundTable cmp source placed.table.number file → IsTornFile cmp placed file cut
 

@@ -38,7 +38,7 @@ IsDurableAt n facts =
     (bytes : List ℕ) × HasSyncedCurrent facts (name_of (Manifest n) ++ 10 ∷ [])
     × (get facts.files (name_of (Manifest n)) ≡ Some bytes) × (facts.synced (name_of (Manifest n)) ≡ Some bytes)
 
--- So of one of some number.
+-- The same of one of some number.
 abbrev pub IsDurable : Facts → Type 0
 IsDurable facts = (n : ℕ) × IsDurableAt n facts
 

@@ -58,8 +58,8 @@ IsWholeOrGone files lost name = (bytes : List ℕ) → get files name ≡ Some b
 abbrev pub IsLeftWhole : Facts → Files → List ℕ → Type 0
 IsLeftWhole facts lost name = IsKept facts name ⊎ IsWholeOrGone facts.files lost name
 
--- So is the file that is read as the table of this number: that of its newer name, or else that of
--- its older one.
+-- The same for the file that is read as the table of this number: that of its newer name, or else
+-- that of its older one.
 abbrev pub IsTableKept : Facts → ℕ → Type 0
 IsTableKept facts number = IsKept facts (name_of (Table number)) × (get facts.files (name_of (Table number)) ≡ None → IsKept facts (name_of (OldTable number)))
 

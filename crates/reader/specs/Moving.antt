@@ -59,7 +59,7 @@ MovesTo cmp motion limited after new walk (Ok pair) =
     IsWalk cmp limited after new (record walk { place = place_after cmp motion walk }) × (pair ≡ pair_at walk.pairs (place_after cmp motion walk))
 MovesTo cmp motion limited after new walk (Err e) = IsWalk cmp limited after new walk
 
--- So of one that may be this walk.
+-- The same of one that may be this walk.
 abbrev pub MayMoveTo : {K : Type 0} {g : _} → (List ℕ → List ℕ → Ordering) → Motion → Whole → Scan K g → Walk → Result (Option (List ℕ × List ℕ)) DbError → Type 0
 MayMoveTo cmp motion after new walk (Ok pair) =
     MayBeWalk cmp after new (record walk { place = place_after cmp motion walk }) × (pair ≡ pair_at walk.pairs (place_after cmp motion walk))

@@ -100,7 +100,7 @@ ready order a next tables plan d merge planned_law part_law total exact in_order
       below = input_below order a.seen.facts.files d next plan.inputs.items p.0 p.1 can.consistent can.free p.2.parted p.2.planned;
     }
 
--- So over contents that the inputs may have.
+-- The same over contents that the inputs may have.
 pub record MayBeReady {K : Type 0} {g : Ghosts K} (order : Order) (a : Whole) (next : ℕ) (plan : JobPlan) (contents : List TableContent) (merge : Merge K (SourceCursor K g)) : Type 0 where
   pub entries : List InternalEntry
   pub same : SameEntries (map entry_of entries) (tabled contents)

@@ -27,7 +27,7 @@ within_of : (cmp : List ℕ → List ℕ → Ordering) (floor : Option (List ℕ
 within_of cmp floor most [] begins a b = tt
 within_of cmp floor most (pair ∷ pairs) begins a b = all_within cmp floor most pair pairs begins.0 begins.1 a b
 
--- so of a block that was opened between its bounds
+-- the same of a block that was opened between its bounds
 pub block_within : (cmp : List ℕ → List ℕ → Ordering) (floor : Option (List ℕ)) (most bytes : List ℕ) (pairs : List Pair) → IsBlock (IsBelowInternal cmp) bytes pairs → BeginsWithKey pairs → AreBetween (IsBelowInternal cmp) floor most pairs → AreWithin cmp floor most pairs
 block_within cmp floor most bytes pairs is begins between = within_of cmp floor most pairs begins is.2.rises between
 

@@ -21,8 +21,8 @@ pub record IsWithin (cmp : List ℕ → List ℕ → Ordering) (floor : Option (
 abbrev pub AreWithin : (List ℕ → List ℕ → Ordering) → Option (List ℕ) → List ℕ → List Pair → Type 0
 AreWithin cmp floor most pairs = AllByRecursion (IsWithin cmp floor most) pairs
 
--- so are all data blocks, in the order of their places; before the first there is this bound, or
--- none
+-- the same for all data blocks, in the order of their places; before the first there is this bound,
+-- or none
 abbrev pub AreAllWithin : (List ℕ → List ℕ → Ordering) → Option (List ℕ) → List Place → List (List Pair) → Type 0
 AreAllWithin cmp floor [] [] = Unit {0}
 AreAllWithin cmp floor (place ∷ places) (pairs ∷ others) = AreWithin cmp floor place.key pairs × AreAllWithin cmp (Some place.key) places others

@@ -9,7 +9,7 @@ use Rattle.table.specs.declared.handle.Place.{Place}
 abbrev pub IsSoughtBy : Front → List ℕ → Type 0
 IsSoughtBy front bytes = (key : Key) × IsKey bytes key × IsFront front key.user
 
--- so of the first places
+-- the same of the first places
 pub record AreFronts (places : List Place) (fronts : List Front) : Type 0 where
   pub few : length fronts ≤ length places
   pub each : (i : ℕ) (d : Place) (e : Front) → i < length fronts → IsSoughtBy (slice_index_or fronts i e) (slice_index_or places i d).key

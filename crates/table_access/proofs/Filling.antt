@@ -69,7 +69,7 @@ module _ (cmp : Cmp) (total : IsTotalOrder cmp) (target : List ℕ) where
         front_under places groups n bounds.1 (λ i place l e. h (suc i) place (omega (arith, l)) e) (k - length g) pair (omega (arith, less, ge)) (sym (behind g (joined groups) (k - length g) k shift) ∙ at)
   ]
 
-  -- so are the bounds of all before the first that isn't
+  -- the same for the bounds of all before the first that isn't
   places_under : (places : List Place) (start : ℕ) → BoundsRise cmp total places → IsFirstPlace cmp target places start → (i : ℕ) (place : Place) → i < start → slice_get places i ≡ Some place → IsBelowInternal cmp place.key target
   places_under places start rise first i place less at =
       let inside = first.inside in

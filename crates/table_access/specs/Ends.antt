@@ -23,7 +23,7 @@ pub record HasEnds (placed : PlacedTable) (count index : ℕ) (pairs : List Pair
   pub first : index ≡ 0 → BeginsAt placed.table.smallest pairs
   pub last : suc index ≡ count → EndsAt placed.table.largest pairs
 
--- so do all blocks of a table
+-- The same for all blocks of a table
 abbrev pub HaveEnds : PlacedTable → List (List Pair) → Type 0
 HaveEnds placed groups = (index : ℕ) (pairs : List Pair) → slice_get groups index ≡ Some pairs → HasEnds placed (length groups) index pairs
 

@@ -26,7 +26,7 @@ pub record Seen : Type 0 where
 abbrev pub seen : Facts → TableCache → BlockCache → Seen
 seen facts tables blocks = record { facts = facts; tables = tables.tables; blocks = blocks.blocks }
 
--- so of a store whose tables are read through caches
+-- the same of a store whose tables are read through caches
 abbrev pub seen_through : {S K : Type 0} → (S → Facts) → Tables K S → Seen
 seen_through facts source = seen (facts source.store) source.tables source.blocks
 

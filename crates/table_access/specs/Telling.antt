@@ -20,7 +20,7 @@ abbrev pub IsPassed : Cmp → (List ℕ → Type 0) → PlacedTable → List ℕ
 IsPassed cmp passed placed file frame index =
     (pairs : List Pair) × IsIntactIn cmp placed file frame.places index pairs × ((n : ℕ) (pair : Pair) → slice_get pairs n ≡ Some pair → passed pair.key)
 
--- so are all from one block on, up to another one
+-- the same for all from one block on, up to another one
 abbrev pub CameTo : Cmp → (List ℕ → Type 0) → PlacedTable → List ℕ → Frame → ℕ → ℕ → Type 0
 CameTo cmp passed placed file frame start end = (index : ℕ) → start ≤ index → index < end → IsPassed cmp passed placed file frame index
 

@@ -61,6 +61,6 @@ module _ (order : Order) (o : IsTotalOrder order.cmp) (exact : IsAntisymmetric o
   pub says_of_each : (value : Option (Option (List ℕ))) → TablesTell order.cmp old new tables key sequence value → SaysOfEach order old new tables key sequence value
   says_of_each value h t contents has = all_say t contents has value h
 
-  -- and so of those that they have
+  -- and the same of those that they have
   pub says_of_all : (value : Option (Option (List ℕ))) → SaysOfEach order old new tables key sequence value → SaysOfAll order old new tables key sequence value
   says_of_all value says t contents has = says t contents (has.0, may_have (MayBeTable order.cmp) order (λ placed file kept table. may_be order.cmp o placed file kept table) old.facts.files tables contents has.1)

@@ -43,6 +43,6 @@ pub record KeepsOpen {K : Type 0} {g : _} (order : Order) (old new : Seen) (befo
   pub loses : IsTrue new.facts.faithful → (ids : Ids) (m : Machine) → StandsWhole order old ids before m → before.broken ≡ false → LosesFirst order old.facts new.facts before m
   pub found : IsTrue new.facts.faithful → (ids : Ids) (m : Machine) → StandsWhole order old ids before m → before.broken ≡ false → KeepsFound old.facts new.facts before
 
--- so of a database to which a session lends what is read
+-- the same of a database to which a session lends what is read
 abbrev pub KeepsLent : {S K : Type 0} {g : _} → Order → (S → Facts) → Sources K S → DbState K g → Sources K S → Type 0
 KeepsLent order facts old before new = KeepsOpen order (seen_of facts old) (seen_of facts new) (open_db old.memory before)

@@ -41,7 +41,7 @@ pub record MakesSynced (old new : Facts) (temporary bytes : List ℕ) (result : 
   pub err : IsTrue new.faithful → OnErr result (temporary ≢ name_of Current → LeavesFile old new (name_of Current) ⊎ HasSyncedCurrent new bytes)
   pub others : IsTrue new.faithful → (q : List ℕ) → q ≢ temporary → q ≢ name_of Current → new.synced q ≡ old.synced q
 
--- So of this one, whose number fits.
+-- The same of this one, whose number fits.
 pub record HasDurable (n : ℕ) (facts : Facts) : Type 0 where
   pub numbered : IsNumbered n
   pub durable : IsDurableAt n facts

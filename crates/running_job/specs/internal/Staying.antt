@@ -23,7 +23,7 @@ LeavesWhole old new name =
     (get new.files name ≡ get old.files name) × ((file : List ℕ) → get old.files name ≡ Some file → old.synced name ≡ Some file → new.synced name ≡ Some file)
     × (StaysNamed old name → StaysNamed new name)
 
--- so are the files of the tables that the job has written, ended or at hand
+-- the same for the files of the tables that the job has written, ended or at hand
 abbrev pub KeepsOutputs : TablesWritten → Facts → Facts → Type 0
 KeepsOutputs w old new = (number : ℕ) → IsOwn w number → LeavesWhole old new (table_name number)
 
