@@ -151,7 +151,7 @@ module _ (old mid : Facts) (name : List ℕ) (lost files : Files) (left : List �
         (whole_up (name_of (Table n)) first some.0, λ none. whole_up (name_of (OldTable n)) second (some.1 (none_before (name_of (Table n)) none)));
   }
 
-  -- the same of a directory that these files are, logs alone may be cut
+  -- in a directory that these files are, logs alone may be cut
   short_cut : CutLaw → (order : Order) (x : Directory) → IsConsistent order files x → name ≡ name_of (Manifest x.manifest) → IsLeftOf mid x lost → AreLeft old x lost → IsLeftCut order old x lost
   short_cut cut order x good named k kept =
       let keeps = left_up x k in
