@@ -65,7 +65,7 @@ module _ (tables : List PlacedTable) (count : ℕ) (placed : PlacedTable) (is : 
     apart = h.apart;
   }
 
-  -- it waits behind the others
+  -- it waits after the others
   pub one_more : (w : Waiting) → w.place ≡ count → IsKey placed.table.smallest (key_of w.smallest) → AreWaiting tables (count + 1) (waiting ++ w ∷ [])
   one_more w here key_is = record {
     each = All-push (IsWaiting tables) waiting w h.each (placed, ap (slice_get tables) here ∙ is, key_is);
@@ -145,13 +145,13 @@ module _ (order : Order) (total : IsTotalOrder order.cmp) where
           | inr ge ↦ omega (arith, ge)
         ]
 
-    -- behind all of them none waits
+    -- after all of them none waits
     pub all_begun : AreBegun waiting (length waiting) begun → AllBeginFrom order tables begun None
     all_begun state place key waits =
         let x = stands_at (length waiting) place key state waits in
         let within = slice_get_within waiting x.0 x.1 x.3 in omega (arith, within, x.2)
 
-    -- none that waits begins in front of the next one
+    -- none that waits begins before the next one
     pub next_is_first : AreSorted order.cmp waiting → (index : ℕ) (next : Waiting) → slice_get waiting index ≡ Some next → AreBegun waiting index begun → AllBeginFrom order tables begun (Some next.smallest)
     next_is_first up index next at state place key waits before =
         let x = stands_at index place key state waits in

@@ -120,8 +120,8 @@ IsInconsistent order files = (d : Directory) → IsConsistent order files d → 
 abbrev pub HasNoManifest : Order → Files → Type 0
 HasNoManifest order files = (number : ℕ) (edits : List (List Field)) (layout : Layout) → HasManifest order files number edits layout → ⊥
 
--- The bytes are a log, and so many of its first records are edits. They name a table past the limit
--- of numbers, or all of them are edits, of another order of keys.
+-- The bytes are a log. So many of its first records are edits that name a table past the limit of
+-- numbers, or all of them are edits, of another order of keys.
 pub record SpellsBeyond (order : Order) (bytes : List ℕ) : Type 0 where
   pub records : List (List ℕ)
   pub tail : Tail

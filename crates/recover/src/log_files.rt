@@ -13,10 +13,10 @@ use logfile::{each_block, judge_block};
 use std::alloc::{AllocError, Global};
 use store::Store;
 
-/// How many bytes a block of a log has.
+/// Counts the bytes of a block of a log.
 const BLOCK: usize = 32_768;
 
-/// How many bytes are read at once: those of 32 blocks.
+/// Counts the bytes that are read at once: those of 32 blocks.
 const PIECE: u64 = 1_048_576;
 
 /// Reads all bytes of a file that should be a log, or `None` if it isn't there. It reads by pieces,

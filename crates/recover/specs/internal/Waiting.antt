@@ -27,7 +27,7 @@ waiting_cmp cmp = then_cmp (on (λ (w : Waiting). w.smallest.user.now) cmp) (fli
 abbrev pub AreSorted : (List ℕ → List ℕ → Ordering) → List Waiting → Type 0
 AreSorted cmp waiting = IsSortedBy (λ a b. is_lt (waiting_cmp cmp a b)) waiting
 
--- those in front of this index were begun, and no others
+-- those before this index were begun, and no others
 pub record AreBegun (waiting : List Waiting) (index : ℕ) (begun : List Bool) : Type 0 where
   pub gone : (i : ℕ) (w : Waiting) → i < index → slice_get waiting i ≡ Some w → slice_get begun w.place ≡ Some true
   pub left : (i : ℕ) (w : Waiting) → index ≤ i → slice_get waiting i ≡ Some w → slice_get begun w.place ≡ Some false
