@@ -268,7 +268,7 @@ module _ {K : Type 0} {g : _} (order : Order) (law : SoundStays) (old : Facts) (
         (n, one.1, stands_cleared order kept db log (log_same log db.log number name end) empty (syncs.kept f) ids n (subst (λ (k : Machine). StandsOpen order kept ids db k) same stands));
   }
 
--- One of them that the device refuses, refuses it.
+-- If the sync of one of them fails, it fails.
 pub refused_kept : (order : Order) {ids : Ids} (old mid kept : Facts) (mode : Mode) (names : List (List ℕ)) → SyncsThese names mid kept → mid.failures < kept.failures → (IsTrue mid.faithful → IsTrue old.faithful) → old.failures ≤ mid.failures → mid.denials ≡ old.denials
     → (IsTrue mid.faithful → OfEach (λ whole left. IsContinued order whole left) old.files mid.files) → Leads old kept (Rests order old ids) (StandsClosed order kept ids) (λ m n. Opens m mode (Refused error.Io) n)
 refused_kept order {ids} old mid kept mode names these rise back failures denials continued =

@@ -76,7 +76,7 @@ module _ {K : Type 0} {g : _} (order : Order) (db : OpenDb K g) (names : HaveNam
 
   -- ---- up to a later moment
 
-  -- From old on each loss leaves the first of the machine's batches; the directory is there again,
+  -- From old on each loss leaves a prefix of the machine's batches; the directory is there again,
   -- and what was synced whole still is.
   pub record Reaches (old then : Facts) (d : Directory) (m : Machine) : Type 0 where
     pub here : CanLoseHere then d m

@@ -39,7 +39,7 @@ KeepsFoundLent order facts old before new =
 pub record KeepsOpen {K : Type 0} {g : _} (order : Order) (old new : Seen) (before : OpenDb K g) : Type 0 where
   -- by a process crash: files that stand for what was accepted
   pub stops : IsTrue new.facts.faithful → (ids : Ids) (m : Machine) → StandsWhole order old ids before m → LeavesOnly old.facts new.facts (λ files. MeansAccepted order files m)
-  -- by a power loss, of a database that isn't broken: the first of what was accepted
+  -- by a power loss, of a database that isn't broken: a prefix of what was accepted
   pub loses : IsTrue new.facts.faithful → (ids : Ids) (m : Machine) → StandsWhole order old ids before m → before.broken ≡ false → LosesFirst order old.facts new.facts before m
   pub found : IsTrue new.facts.faithful → (ids : Ids) (m : Machine) → StandsWhole order old ids before m → before.broken ≡ false → KeepsFound old.facts new.facts before
 
