@@ -142,11 +142,15 @@ impl<K: KeyOrder> Merge<K> {
         requires sorted { AreSorted K.cmp waiting.now }
         ensures store { IsUnchanged (S.facts store.old) (S.facts store.new) }
         ensures still { IsStill (S.facts store.old) (S.facts store.new) result }
-        ensures told { IfErr result (λ e. TellsMerge e (order_of K.name K.cmp) (S.facts store.old) (S.facts store.new) against.entry) }
-        ensures refused { IfErr result (λ e. RefusesMerge e (order_of K.name K.cmp) (S.facts store.old) (S.facts store.new) against.entry) }
+        ensures told { IfErr result (λ e.
+            TellsMerge e (order_of K.name K.cmp) (S.facts store.old) (S.facts store.new) against.entry) }
+        ensures refused { IfErr result (λ e.
+            RefusesMerge e (order_of K.name K.cmp) (S.facts store.old) (S.facts store.new) against.entry) }
         ensures fits { OnOk result (FitsTables against.entry.tables.now self.new) }
-        ensures found { OnOk result (StandsMid (order_of K.name K.cmp) (S.facts store.old) (S.facts store.new) against.entry self.new) }
-        ensures begun { OnOk result (AllBeginFrom (order_of K.name K.cmp) against.entry.tables.now self.new.begun.items None) }
+        ensures found { OnOk result
+            (StandsMid (order_of K.name K.cmp) (S.facts store.old) (S.facts store.new) against.entry self.new) }
+        ensures begun { OnOk result
+            (AllBeginFrom (order_of K.name K.cmp) against.entry.tables.now self.new.begun.items None) }
     {
         for next in waiting {
             self.run_until(alloc, store, against, Some(next.smallest))?;
