@@ -12,6 +12,9 @@ from running import said_beside
 
 SECONDS = 60
 
+# before the lines of another process, which stand in one line of a script, with commas between them
+OTHER = "other: "
+
 
 class Ended(Wrong):
     """A program that was recorded ended before its script did, since it was refused."""
@@ -101,19 +104,6 @@ def files_in(folder):
     return found
 
 
-def answers_to(process, script):
-    """Gives a program its lines one by one, and answers what it says to each, until it ends."""
-    answers = []
-    try:
-        for line in script:
-            process.stdin.write(f"{line}\n".encode())
-            process.stdin.flush()
-            answers.append(process.stdout.readline().decode().rstrip("\n"))
-    except BrokenPipeError:
-        pass
-    return answers
-
-
 class Recording:
     """A folder as it was, what was done there since, by one run of a program or several, and what these answered."""
 
@@ -125,13 +115,13 @@ class Recording:
         self.script, self.answers = [], []
 
     def run(self, words, script):
-        """Runs a program, whose last word is the folder."""
+        """Runs a program, whose last word is the folder. A line that begins with OTHER is another run."""
         command = [*words, self.folder]
         with subprocess.Popen(command, stdin=subprocess.PIPE, stdout=subprocess.PIPE, stderr=subprocess.PIPE, env=self.environment) as process:
             killer = threading.Timer(SECONDS, process.kill)
             killer.start()
             try:
-                answers = answers_to(process, script)
+                answers = self.answers_to(process, words, script)
                 said = process.communicate()
             finally:
                 killer.cancel()
@@ -139,8 +129,23 @@ class Recording:
             raise Ended(f"it ended with status 1, and said {said[1]}")
         if process.returncode or said[0] or said_beside("\n".join(answers).encode(), said[1]):
             raise Wrong(f"it ended with status {process.returncode}, and said {said}")
-        self.script += script
-        self.answers += answers
+
+    def answers_to(self, process, words, script):
+        """Gives a program its lines one by one, and answers what it says to each, until it ends."""
+        answers = []
+        try:
+            for line in script:
+                if line.startswith(OTHER):
+                    self.run(words, line.removeprefix(OTHER).split(", "))
+                    continue
+                process.stdin.write(f"{line}\n".encode())
+                process.stdin.flush()
+                answers.append(process.stdout.readline().decode().rstrip("\n"))
+                self.script.append(line)
+                self.answers.append(answers[-1])
+        except BrokenPipeError:
+            pass
+        return answers
 
     def calls(self):
         return calls_in(self.record)

@@ -26,6 +26,10 @@ SESSIONS = [
         "open; put 63 04; compact all; write sync put 62 05; close",
     ]),
     ("runs that end open", "--write-buffer 1", ["open new; put 61 01; work 9", "open; put 62 02; work 9; work 9; put 63 03", "open; write sync put 61 04"]),
+    ("another process between two opens", "--write-buffer 1", [
+        "open new; write sync put 61 01; put 62 02; work 9; close; other: open, put 63 03, work 9, work 9, write sync del 61, compact all, close; "
+        "open; write sync put 64 04; work 9; work 9; close; other: open, put 65 05, close; open; put 66 06; work 9; work 9; close",
+    ]),
     ("a batch over blocks of a log", "", [f"open new; write sync put 61 01 put 62 {'02' * 40_000}; put 63 {'03' * 33_000}; write sync del 62; close; open; close"]),
 ]  # fmt: skip
 
