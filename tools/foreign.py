@@ -1,4 +1,4 @@
-"""Checks of tools/program over folders in which other programs have files, links and folders of their own.
+"""Checks of tools/program over folders with files, links and folders of other programs.
 
 Nothing outside the folder is written, and what isn't a database's is ignored. What can't be looked
 at is told by its name.

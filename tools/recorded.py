@@ -1,5 +1,8 @@
-"""What a program did to the files of a folder, call by call, and what it had answered by then: it is run over a shim that records that
-(recording_calls.c), and is given a script line by line, each once the line before it is answered."""
+"""Records what a program did to the files of a folder, call by call, and what it answered.
+
+It runs over a shim that records that (recording_calls.c). It is given a script line by line, each
+once the line before it is answered.
+"""
 import collections
 import os
 import struct
@@ -20,14 +23,14 @@ class Ended(Wrong):
     """A program that was recorded ended before its script did, since it was refused."""
 
 
-# what stands in front of an entry's texts: its kind, flags, the inode, the place, and the lengths of the two
+# what stands before an entry's texts: its kind, flags, inode, place, and the lengths of the two
 HEAD = struct.Struct("=IIQQII")
 Entry = collections.namedtuple("Entry", "flags file place first second")
 
 
 @dataclass(frozen=True)
 class Opened:
-    """An open that makes a file where none has the name, and empties it if it says so. Files are told by their inodes."""
+    """An open that makes a file if none has the name, and may empty it. Inodes tell files apart."""
 
     name: str
     file: int
@@ -105,7 +108,7 @@ def files_in(folder):
 
 
 class Recording:
-    """A folder as it was, what was done there since, by one run of a program or several, and what these answered."""
+    """A folder as it was, what runs of a program did there since, and what these answered."""
 
     def __init__(self, shim, folder, record, **environment):
         self.folder, self.record = os.path.abspath(folder), record
@@ -115,7 +118,7 @@ class Recording:
         self.script, self.answers = [], []
 
     def run(self, words, script):
-        """Runs a program, whose last word is the folder. A line that begins with OTHER is another run."""
+        """Runs a program over the folder. A line that begins with OTHER is another run of it."""
         command = [*words, self.folder]
         with subprocess.Popen(command, stdin=subprocess.PIPE, stdout=subprocess.PIPE, stderr=subprocess.PIPE, env=self.environment) as process:
             killer = threading.Timer(SECONDS, process.kill)

@@ -72,7 +72,7 @@ class Worker:
 
 
 class Reader:
-    """A reading command that is stopped before one of its calls, until it is asked what it found."""
+    """A reading command that is stopped before one of its calls, until somebody asks it."""
 
     def __init__(self, shim, folder, verb, key, number):
         self.verb, self.key, self.number = verb, key, number
@@ -93,7 +93,7 @@ class Reader:
         self.is_stopped = stopped.si_code == os.CLD_STOPPED
 
     def found(self):
-        """What it printed by its end: the pairs, or the value of a key or None. Or why it was refused."""
+        """What it printed by its end: the pairs, or a value or None. Or why it was refused."""
         if self.is_stopped:
             self.process.send_signal(signal.SIGCONT)
         printed, said = self.process.communicate(timeout=SECONDS)
@@ -142,7 +142,7 @@ class Drawn:
         self.chance, self.count = random.Random(seed), 0
 
     def batch(self, pairs):
-        """The operations of a batch, and these pairs with them. Half of the batches change each key."""
+        """The operations of a batch, and these pairs with them. Half of them change each key."""
         pairs, words = dict(pairs), []
         keys = KEYS if self.chance.random() < 0.5 else self.chance.sample(KEYS, self.chance.choice((1, 1, 2, 4)))
         self.count += 1
