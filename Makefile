@@ -6,7 +6,7 @@ export RT
 
 PROGRAMS := quickstart ldbtool
 
-# Where `make install` puts ldbtool and what belongs to it. Packagers set DESTDIR, which comes first.
+# Where `make install` puts ldbtool and what belongs to it. DESTDIR comes first, for packagers.
 PREFIX ?= /usr/local
 LDBTOOL ?= build/ldbtool
 BELOW := $(DESTDIR)$(PREFIX)
