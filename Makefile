@@ -6,7 +6,7 @@ export RT
 
 PROGRAMS := quickstart ldbtool
 
-# Where `make install` puts ldbtool and what belongs to it. Packagers set DESTDIR, which comes first.
+# Where `make install` puts ldbtool and what belongs to it. DESTDIR comes first, for packagers.
 PREFIX ?= /usr/local
 LDBTOOL ?= build/ldbtool
 BELOW := $(DESTDIR)$(PREFIX)
@@ -46,8 +46,8 @@ make deb        Makes a Debian package of the same in build/. It needs dpkg-dev 
 make program    Checks ldbtool as users run it: scripts, pipes, wrong folders, examples. A minute.
 make stops      Rebuilds the states after crashes and power losses, and opens each. Under a minute.
 make soak       Drawn sessions of ldbtool beside a plain model, half of them killed; states after
-                crashes and power losses; 20,000 damaged directories. Ten minutes each, or those
-                of make soak SECONDS=60.
+                crashes and power losses; sessions of several processes by turns on one folder;
+                20,000 damaged directories. Ten minutes each, or those of make soak SECONDS=60.
 make interop    Compares ldbtool with LevelDB: three minutes.
 make bench      Measures ldbtool beside LevelDB, into docs/SPEED.md. make bench N=100000 takes
                 fewer entries than a million.
@@ -110,6 +110,7 @@ stops: build/ldbtool
 soak: build/ldbtool
 	tools/soak $(if $(SECONDS),--seconds $(SECONDS))
 	tools/stops --seconds $(or $(SECONDS),600)
+	tools/turns --seconds $(or $(SECONDS),600)
 	tools/damage $(if $(SECONDS),--seconds $(SECONDS),--count 2000)
 
 interop: needs-rt

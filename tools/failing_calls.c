@@ -1,11 +1,11 @@
 // Beneath ldbtool, by LD_PRELOAD: the call of the system of one number fails with EIO, and all are
-// counted. tools/refusals builds and uses it. Counted are calls that concern files of one folder: by
+// counted. tools/refusals builds and uses it. A call counts if it concerns files of one folder: by
 // a path in it, or by a descriptor that isn't a standard stream.
 //
-//   REFUSED_NUMBER=N     the Nth call fails and does nothing, none if N is 0
-//   STOPS=1              that call doesn't fail: the program stops before it by SIGSTOP (tools/turns)
-//   COUNTS_FILE=FILE     has two words of 64 bits: how many calls there were, and how many failed
-//   FOLDER=PATH          the folder
+//   REFUSED_NUMBER=N     the Nth call fails and does nothing, none if N is 0.
+//   STOPS=1              That call doesn't fail: the program stops before it (tools/turns).
+//   COUNTS_FILE=FILE     It has two words of 64 bits: how many calls there were, and failed.
+//   FOLDER=PATH          The folder.
 //
 // COUNTS_FILE is mapped, so that the words are there however the program ends.
 #define _GNU_SOURCE

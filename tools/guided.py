@@ -27,8 +27,8 @@ def hexed(text):
 
 
 def prepared(room):
-    """Makes what the recipes work on: `db`, `bad` with one of two tables damaged, `lines` with a bad
-    line, and `commands`."""
+    """Makes what the recipes work on: `db`, `bad` with one of two tables damaged, `lines` with a
+    bad line, and `commands`."""
     script = lines(*(f"put {hexed(key)} {hexed(value)}" for key, value in PAIRS))
     want_ran(ldbtool("import", new_folder(room, "db"), script=script), 0, b"taken 3\n", "an import")
     two = lines("open new", "put 61 31", "put 62 32", "compact all")

@@ -1,5 +1,8 @@
-"""What a program did to the files of a folder, call by call, and what it had answered by then: it is run over a shim that records that
-(recording_calls.c), and is given a script line by line, each once the line before it is answered."""
+"""Records what a program did to the files of a folder, call by call, and what it answered.
+
+It runs over a shim that records that (recording_calls.c). It is given a script line by line, each
+once the line before it is answered.
+"""
 import collections
 import os
 import struct
@@ -12,19 +15,22 @@ from running import said_beside
 
 SECONDS = 60
 
+# before the lines of another process, which stand in one line of a script, with commas between them
+OTHER = "other: "
+
 
 class Ended(Wrong):
     """A program that was recorded ended before its script did, since it was refused."""
 
 
-# what stands in front of an entry's texts: its kind, flags, the inode, the place, and the lengths of the two
+# what stands before an entry's texts: its kind, flags, inode, place, and the lengths of the two
 HEAD = struct.Struct("=IIQQII")
 Entry = collections.namedtuple("Entry", "flags file place first second")
 
 
 @dataclass(frozen=True)
 class Opened:
-    """An open that makes a file where none has the name, and empties it if it says so. Files are told by their inodes."""
+    """An open that makes a file if none has the name, and may empty it. Inodes tell files apart."""
 
     name: str
     file: int
@@ -101,21 +107,8 @@ def files_in(folder):
     return found
 
 
-def answers_to(process, script):
-    """Gives a program its lines one by one, and answers what it says to each, until it ends."""
-    answers = []
-    try:
-        for line in script:
-            process.stdin.write(f"{line}\n".encode())
-            process.stdin.flush()
-            answers.append(process.stdout.readline().decode().rstrip("\n"))
-    except BrokenPipeError:
-        pass
-    return answers
-
-
 class Recording:
-    """A folder as it was, what was done there since, by one run of a program or several, and what these answered."""
+    """A folder as it was, what runs of a program did there since, and what these answered."""
 
     def __init__(self, shim, folder, record, **environment):
         self.folder, self.record = os.path.abspath(folder), record
@@ -125,13 +118,13 @@ class Recording:
         self.script, self.answers = [], []
 
     def run(self, words, script):
-        """Runs a program, whose last word is the folder."""
+        """Runs a program over the folder. A line that begins with OTHER is another run of it."""
         command = [*words, self.folder]
         with subprocess.Popen(command, stdin=subprocess.PIPE, stdout=subprocess.PIPE, stderr=subprocess.PIPE, env=self.environment) as process:
             killer = threading.Timer(SECONDS, process.kill)
             killer.start()
             try:
-                answers = answers_to(process, script)
+                answers = self.answers_to(process, words, script)
                 said = process.communicate()
             finally:
                 killer.cancel()
@@ -139,8 +132,23 @@ class Recording:
             raise Ended(f"it ended with status 1, and said {said[1]}")
         if process.returncode or said[0] or said_beside("\n".join(answers).encode(), said[1]):
             raise Wrong(f"it ended with status {process.returncode}, and said {said}")
-        self.script += script
-        self.answers += answers
+
+    def answers_to(self, process, words, script):
+        """Gives a program its lines one by one, and answers what it says to each, until it ends."""
+        answers = []
+        try:
+            for line in script:
+                if line.startswith(OTHER):
+                    self.run(words, line.removeprefix(OTHER).split(", "))
+                    continue
+                process.stdin.write(f"{line}\n".encode())
+                process.stdin.flush()
+                answers.append(process.stdout.readline().decode().rstrip("\n"))
+                self.script.append(line)
+                self.answers.append(answers[-1])
+        except BrokenPipeError:
+            pass
+        return answers
 
     def calls(self):
         return calls_in(self.record)

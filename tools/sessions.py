@@ -1,7 +1,11 @@
-"""Sessions one behind the other over one folder, with what must be answered and left, written down by hand, for tools/program."""
+"""Sessions one after the other over one folder, for tools/program.
 
-# each begins in an empty folder: its name, the options, and sessions, each with its answers, the files that are there behind it, and the tables
-# of a check: the level, the number and the entries of each; the last two are None where they are not looked at
+What must be answered and left is written down by hand.
+"""
+
+# Each begins in an empty folder: its name, the options, and sessions. Each session has its
+# answers, the files that are there after it, and the tables of a check: the level, the number and
+# the entries of each. The last two are None if they are not looked at.
 SESSIONS = [
     ("they keep what they saw", "", [
         ("open new; put 61 31; snapshot; put 61 32; put 62 33; get 61 1; get 62 1; get 61; iter 1; iter; first 1; next 1; last 2; prev 2; "

@@ -1,4 +1,7 @@
-"""Sessions of ldbtool for tools/stops, written down and drawn: so short that each state that may be left of them can be opened."""
+"""Sessions of ldbtool for tools/stops, written down and drawn.
+
+They are so short that each state that may be left of them can be opened.
+"""
 import itertools
 from dataclasses import dataclass
 
@@ -26,6 +29,10 @@ SESSIONS = [
         "open; put 63 04; compact all; write sync put 62 05; close",
     ]),
     ("runs that end open", "--write-buffer 1", ["open new; put 61 01; work 9", "open; put 62 02; work 9; work 9; put 63 03", "open; write sync put 61 04"]),
+    ("another process between two opens", "--write-buffer 1", [
+        "open new; write sync put 61 01; put 62 02; work 9; close; other: open, put 63 03, work 9, work 9, write sync del 61, compact all, close; "
+        "open; write sync put 64 04; work 9; work 9; close; other: open, put 65 05, close; open; put 66 06; work 9; work 9; close",
+    ]),
     ("a batch over blocks of a log", "", [f"open new; write sync put 61 01 put 62 {'02' * 40_000}; put 63 {'03' * 33_000}; write sync del 62; close; open; close"]),
 ]  # fmt: skip
 
@@ -33,7 +40,8 @@ SESSIONS = [
 PLANTED = [*SESSIONS[2][2], "open; close"]
 
 
-# in each of these one call of the system is refused: its options and its lines; where an open is refused another one follows
+# In each of these one call of the system is refused: its options and its lines. After an open that
+# is refused another one follows.
 REFUSED = {
     "opens": ("", "open any; open any; write sync put 61 01; put 62 02; close; open any; open any; put 63 03; close; open any; open any; write sync del 61; close"),
     "work": ("--write-buffer 1 --level0-files 2", "open any; open any; write sync put 61 01; work 9; work 9; close; open any; open any; put 62 02; work 9; work 9; work 9; "
@@ -41,13 +49,16 @@ REFUSED = {
 }  # fmt: skip
 
 
-# imports, each of lines by so many, of which all has to be kept by the device at their end: the options, and how many lines
+# imports, at whose end all lines are on disk: the options, and how many lines
 IMPORTS = [("--batch 2", 4), ("--batch 2", 5), ("--batch 1", 3), ("--batch 1 --write-buffer 1", 4), ("", 3), ("", 0)]
 
 
 @dataclass(frozen=True)
 class Case:
-    """A session for one thing that a loss of power could do, from one of its lines on; and whether names come to the device in any order."""
+    """A session for one thing that a power loss could do, from one of its lines on.
+
+    It says whether names reach the disk in any order.
+    """
 
     options: str
     script: str
@@ -81,7 +92,7 @@ def drawn_options(chance):
 
 
 def drawn_runs(chance, runs, commands):
-    """Scripts one behind the other over one folder, of so many commands each. Each batch has values of its own."""
+    """Scripts one after the other over one folder, of so many commands. Each value is new."""
     numbers = itertools.count(chance.randrange(2**16))
     return ["; ".join(["open any", *drawn_lines(chance, numbers, commands), *chance.choice((["close"], []))]) for _ in range(runs)]
 

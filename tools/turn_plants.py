@@ -16,8 +16,7 @@ FORGETS_NOT = [("        self.kept.clear();\n", "")]
 # of each bug what it replaces by what, wherever that stands in folder.rt
 PLANTS = {
     "a folder that keeps its files open past the lock": FORGETS_NOT,
-    "a folder that keeps its files open where it is listed without the lock": [("        if self.lock.is_none() {\n            self.begin()?;\n        }\n", "")],
-    "a reader takes any file of a name": [("Some(seen) => *seen == found,", "Some(_) => true,")],
+    "a folder whose reader takes any file of a name": [("Some(seen) => *seen == found,", "Some(_) => true,")],
 }
 
 

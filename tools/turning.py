@@ -11,6 +11,9 @@ from running import REASON, under_test
 
 SECONDS = 60
 
+# the status of a `get` that finds none
+NO_VALUE = 4
+
 KEYS = [b"a", b"b", b"c", b"d", b"ab", b"abc", b"x" * 40, b""]
 
 # what the options of a process are drawn from: so small that a turn makes tables, and compactions
@@ -29,7 +32,7 @@ def drawn_options(chance):
 
 
 class Worker:
-    """A process that lives as long as the session. Its lines open, change and close the database."""
+    """A process that lives as long as the session. Its lines open and change the database."""
 
     def __init__(self, words, is_leveldb=False):
         self.is_leveldb = is_leveldb
@@ -69,39 +72,45 @@ class Worker:
 
 
 class Reader:
-    """A reading command that is stopped before one of its calls on the folder, until it is asked what it found."""
+    """A reading command that is stopped before one of its calls, until somebody asks it."""
 
     def __init__(self, shim, folder, verb, key, number):
         self.verb, self.key, self.number = verb, key, number
-        words = {"get": ["get", folder, word(key)], "scan": ["scan", "--values", folder], "back": ["scan", "--values", "--reverse", folder], "dump": ["export", folder]}[verb]
+        words = {
+            "get": ["get", folder, word(key)], "scan": ["scan", "--values", folder],
+            "back": ["scan", "--values", "--reverse", folder], "export": ["export", folder],
+        }[verb]  # fmt: skip
         self.counts = tempfile.NamedTemporaryFile()
         self.counts.write(bytes(16))
         self.counts.flush()
         environment = {
-            **os.environ, "LD_PRELOAD": shim, "COUNTS_FILE": self.counts.name, "FOLDER": folder, "REFUSED_NUMBER": str(number), "STOPS": "1",
+            **os.environ, "LD_PRELOAD": shim, "COUNTS_FILE": self.counts.name, "FOLDER": folder,
+            "REFUSED_NUMBER": str(number), "STOPS": "1",
         }  # fmt: skip
-        self.process = subprocess.Popen([under_test(), *words], stdin=subprocess.DEVNULL, stdout=subprocess.PIPE, stderr=subprocess.PIPE, env=environment)
+        pipes = {"stdin": subprocess.DEVNULL, "stdout": subprocess.PIPE, "stderr": subprocess.PIPE}
+        self.process = subprocess.Popen([under_test(), *words], env=environment, **pipes)
         stopped = os.waitid(os.P_PID, self.process.pid, os.WSTOPPED | os.WEXITED | os.WNOWAIT)
         self.is_stopped = stopped.si_code == os.CLD_STOPPED
 
     def found(self):
-        """What it printed by its end: the pairs, or of one key the value or None. Or why it was refused."""
+        """What it printed by its end: the pairs, or a value or None. Or why it was refused."""
         if self.is_stopped:
             self.process.send_signal(signal.SIGCONT)
         printed, said = self.process.communicate(timeout=SECONDS)
         self.counts.close()
         lines, said = printed.decode().splitlines(), said.decode()
-        if self.process.returncode == 0:
+        if self.process.returncode == 0 or self.verb == "get" and self.process.returncode == NO_VALUE:
             if said:
                 raise Wrong(f"{self} said {said[:200]!r} beside its answer")
             return self.read(lines), ""
         if not lines or not lines[-1].startswith("refused ") or not said:
-            raise Wrong(f"{self} ended with status {self.process.returncode}, printed {lines[-1:]} and said {said[:200]!r}")
+            how = f"status {self.process.returncode}, printed {lines[-1:]} and said {said[:200]!r}"
+            raise Wrong(f"{self} ended with {how}")
         return None, f"{lines[-1]}: {said.strip()}"
 
     def read(self, lines):
         if self.verb == "get":
-            return None if lines == ["none"] else text_of(lines[0])
+            return text_of(lines[0]) if lines else None
         pairs = [it.removeprefix("put ").split(" ") for it in lines]
         keys = [text_of(key) for key, _ in pairs]
         if keys != sorted(set(keys), reverse=self.verb == "back"):
@@ -122,7 +131,8 @@ class Reader:
 
 
 def drawn_reader(chance, shim, folder):
-    return Reader(shim, folder, chance.choice(("get", "scan", "scan", "back", "dump")), chance.choice(KEYS), chance.randrange(1, MOST_CALLS))
+    verb = chance.choice(("get", "scan", "scan", "back", "export"))
+    return Reader(shim, folder, verb, chance.choice(KEYS), chance.randrange(1, MOST_CALLS))
 
 
 class Drawn:
@@ -132,7 +142,7 @@ class Drawn:
         self.chance, self.count = random.Random(seed), 0
 
     def batch(self, pairs):
-        """The operations of a batch over these pairs, and the pairs with them. Half of the batches change each key."""
+        """The operations of a batch, and these pairs with them. Half of them change each key."""
         pairs, words = dict(pairs), []
         keys = KEYS if self.chance.random() < 0.5 else self.chance.sample(KEYS, self.chance.choice((1, 1, 2, 4)))
         self.count += 1

@@ -1,7 +1,7 @@
 // What a store over a folder of the system does.
 use crate::stores::{CALLS, REPLACED, Row, Step, first_wrong, perform};
 use std::alloc::{AllocError, Global};
-use std::os::unix::fs::PermissionsExt;
+use std::os::unix::fs::{PermissionsExt, symlink};
 use std::test::*;
 use std::{env, fs, process};
 use store::{FileStore, Store, StoreError};
@@ -145,6 +145,41 @@ const GONE_ON: &[Turn] = &[
     (false, Step::Lock, Ok(false)),
 ];
 
+// What one store does while the other doesn't hold the lock.
+const BETWEEN: &[Turn] = &[
+    (false, Step::Lock, Ok(true)),
+    (false, Step::Create("CURRENT"), Ok(true)),
+    (false, Step::Append("CURRENT", b"first"), Ok(true)),
+    (false, Step::Create("000005.ldb"), Ok(true)),
+    (false, Step::Unlock, Ok(true)),
+    (true, Step::Lock, Ok(true)),
+    (true, Step::Create("000006.dbtmp"), Ok(true)),
+    (true, Step::Append("000006.dbtmp", b"second"), Ok(true)),
+    (true, Step::Rename("000006.dbtmp", "CURRENT"), Ok(true)),
+    (true, Step::Unlock, Ok(true)),
+    // the lock begins anew
+    (false, Step::Lock, Ok(true)),
+    (false, Step::Holds("CURRENT", b"second"), Ok(true)),
+    (false, Step::Unlock, Ok(true)),
+    // and so does a list without it
+    (false, Step::Names("000005.ldb;CURRENT;LOCK;"), Ok(true)),
+    (false, Step::Holds("CURRENT", b"second"), Ok(true)),
+    (true, Step::Lock, Ok(true)),
+    (true, Step::Create("000007.dbtmp"), Ok(true)),
+    (true, Step::Append("000007.dbtmp", b"third"), Ok(true)),
+    (true, Step::Rename("000007.dbtmp", "CURRENT"), Ok(true)),
+    (false, Step::Names("000005.ldb;CURRENT;LOCK;"), Ok(true)),
+    (false, Step::Holds("CURRENT", b"third"), Ok(true)),
+    // what was listed and is gone isn't missing
+    (true, Step::Remove("000005.ldb"), Ok(true)),
+    (
+        false,
+        Step::Holds("000005.ldb", b""),
+        Err(StoreError::Device),
+    ),
+    (true, Step::Unlock, Ok(true)),
+];
+
 // A store that is gone holds no lock.
 const ALONE: &[Row] = &[
     (Step::Lock, Ok(true)),
@@ -153,8 +188,13 @@ const ALONE: &[Row] = &[
 ];
 
 // The first turn that answers otherwise, by its place.
-fn first_wrong_turn(alloc: Global, store: &mut FileStore, other: &mut FileStore) -> Option<usize> {
-    for (place, (is_other, step, wanted)) in GONE_ON.iter().enumerate() {
+fn first_wrong_turn(
+    alloc: Global,
+    turns: &[Turn],
+    store: &mut FileStore,
+    other: &mut FileStore,
+) -> Option<usize> {
+    for (place, (is_other, step, wanted)) in turns.iter().enumerate() {
         let turn = if *is_other { &mut *other } else { &mut *store };
         if perform(alloc, turn, *step) != *wanted {
             return Some(place);
@@ -167,16 +207,17 @@ fn first_wrong_turn(alloc: Global, store: &mut FileStore, other: &mut FileStore)
 fn first_wrong_beside(
     rt: &HostRuntime,
     folder: &str,
+    turns: &[Turn],
     store: &mut FileStore,
 ) -> Result<Option<usize>, StoreError> {
     let mut other = FileStore::open(rt, folder)?;
-    Ok(first_wrong_turn(rt.alloc(), store, &mut other))
+    Ok(first_wrong_turn(rt.alloc(), turns, store, &mut other))
 }
 
 // Whether two stores take their turns, and the first one goes on after them.
-fn take_turns(rt: &HostRuntime, folder: &str) -> Result<bool, StoreError> {
+fn take_turns(rt: &HostRuntime, folder: &str, turns: &[Turn]) -> Result<bool, StoreError> {
     let mut store = FileStore::open(rt, folder)?;
-    let beside = first_wrong_beside(rt, folder, &mut store)?;
+    let beside = first_wrong_beside(rt, folder, turns, &mut store)?;
     Ok(beside.is_none() && first_wrong(rt.alloc(), &mut store, ALONE).is_none())
 }
 
@@ -188,9 +229,64 @@ fn has_text(rt: &HostRuntime, folder: &str, name: &str, text: &str) -> Result<bo
 #[test]
 fn another_store_reads_the_files_and_goes_on(rt: HostRuntime) -> Result<(), Fail> {
     let folder = fresh_folder(&rt, "another")?;
-    assert_eq!(rt; take_turns(&rt, folder.as_str()), Ok(true));
+    assert_eq!(rt; take_turns(&rt, folder.as_str(), GONE_ON), Ok(true));
     assert!(rt; has_text(&rt, folder.as_str(), "000004.log", "first, second, third")?);
     fs::remove_dir_all(&rt, folder.as_str())?;
+    Ok(())
+}
+
+#[test]
+fn what_another_store_did_meanwhile_is_seen(rt: HostRuntime) -> Result<(), Fail> {
+    let folder = fresh_folder(&rt, "meanwhile")?;
+    assert_eq!(rt; take_turns(&rt, folder.as_str(), BETWEEN), Ok(true));
+    fs::remove_dir_all(&rt, folder.as_str())?;
+    Ok(())
+}
+
+// ---- links
+
+// Names that lead to a file outside of the folder, or to none.
+const LINKS: [(&str, &str); 5] = [
+    ("000004.log", "missing"),
+    ("000005.log", "theirs"),
+    ("000006.ldb", "theirs"),
+    ("LOCK", "theirs"),
+    ("other", "theirs"),
+];
+
+// A link is read, and nothing is written through one. It is listed only under a database's name.
+const LINKED: &[Row] = &[
+    (Step::Create("000004.log"), Err(StoreError::Device)),
+    (Step::Append("000004.log", b"x"), Err(StoreError::Device)),
+    (Step::Create("000005.log"), Err(StoreError::Device)),
+    (Step::Append("000005.log", b"x"), Err(StoreError::Device)),
+    (Step::Holds("000006.ldb", b"theirs"), Ok(true)),
+    (Step::Append("000006.ldb", b"x"), Err(StoreError::Device)),
+    (Step::Lock, Err(StoreError::Device)),
+    (
+        Step::Names("000004.dbtmp;000005.log;000006.ldb;LOCK;"),
+        Ok(true),
+    ),
+    (Step::Remove("000004.dbtmp"), Ok(true)),
+];
+
+#[test]
+fn nothing_is_written_through_a_link(rt: HostRuntime) -> Result<(), Fail> {
+    let folder = fresh_folder(&rt, "linked")?;
+    let outside = fresh_folder(&rt, "outside")?;
+    let theirs = within(&rt, outside.as_str(), "theirs")?;
+    fs::write(&rt, theirs.as_str(), "theirs")?;
+    for (name, target) in LINKS {
+        let target = within(&rt, outside.as_str(), target)?;
+        let link = within(&rt, folder.as_str(), name)?;
+        symlink(&rt, target.as_str(), link.as_str())?;
+    }
+    assert_eq!(rt; first_wrong_in(&rt, folder.as_str(), LINKED), Ok(None));
+    assert!(rt; has_text(&rt, outside.as_str(), "theirs", "theirs")?);
+    let missing = within(&rt, outside.as_str(), "missing")?;
+    assert!(rt; !fs::exists(&rt, missing.as_str())?);
+    fs::remove_dir_all(&rt, folder.as_str())?;
+    fs::remove_dir_all(&rt, outside.as_str())?;
     Ok(())
 }
 
