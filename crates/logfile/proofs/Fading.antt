@@ -1,4 +1,5 @@
--- What a power loss leaves of a log, with zeros at its end: it reads as the log cut off at the same place, or is mended to a prefix of it.
+-- What a power loss leaves of a log, with zeros at its end. It reads as the log cut off at the same
+-- place, or is mended to a prefix of it.
 use Rattle.std.proofs.Common.{◌≡◌, ℕ, ◌+◌, ◌-◌, ◌<◌, ◌≤◌, ◌⊎◌, inl, inr, false, List, ◌++◌, length, replicate, take, drop, get_or, refl, sym, ap, ◌∙◌, subst, arith}
 use Rattle.std.proofs.Math.ListN.{get_or-eq_default}
 use Rattle.std.proofs.lemmas.Bool.{cases_lt}

@@ -1,4 +1,5 @@
--- What a power loss leaves of a log: it reads as the log cut off at the same place, or its first damage lies behind a prefix of it.
+-- What a power loss leaves of a log. It reads as the log cut off at the same place, or its first
+-- damage follows a prefix of it.
 use Rattle.std.proofs.Common.{◌≡◌, ℕ, zero, suc, ◌+◌, ◌<◌, ◌≤◌, ◌⊎◌, inl, inr, Bool, true, false, List, [], ◌∷◌, ◌++◌, length, take, drop, get_or, refl, sym, ap, ◌∙◌, subst, append_assoc, arith}
 use Rattle.std.proofs.Math.ListN.{get_or-eq_default}
 use Rattle.std.proofs.lemmas.Bool.{cases_lt, cases_eq}

@@ -130,36 +130,36 @@ fn ends_in_zeros(rest: &[u8]) -> bool
     are_zeros(end)
 }
 
-/// Law: no prefix of whole fragments is longer than the one that is cut behind.
+/// Proves that no prefix of whole fragments is longer than the one that is cut after.
 pub fn longest_front()
     ensures { (bytes front sure more : List ℕ) (fragments : List FragmentValue)
         → IsMended bytes front ⊎ IsCutAt bytes front → bytes ≡ sure ++ more → AreBlocks sure fragments false
         → (rest : List ℕ) × (front ≡ sure ++ rest) }
 {}
 
-/// Law: no prefix that is a log has a record more than the one that is cut behind.
+/// Proves that no prefix that is a log has a record more than the one that is cut after.
 pub fn most_records()
     ensures { (bytes front sure more : List ℕ) (records kept : List (List ℕ)) (tail end : TailValue)
         → IsCutAt bytes front → IsLog front kept end → bytes ≡ sure ++ more → IsLog sure records tail
         → (others : List (List ℕ)) × (kept ≡ records ++ others) }
 {}
 
-/// Law: what has a place to cut is no log.
+/// Proves that what has a place to cut is no log.
 pub fn cut_is_no_log()
     ensures { (bytes front : List ℕ) (records : List (List ℕ)) (tail : TailValue)
         → IsCutAt bytes front → IsLog bytes records tail → ⊥ }
 {}
 
-/// Law: a log with zeros at its end reads as the log cut off at the same place, or is mended to a
-/// prefix of it.
+/// Proves that a log with zeros at its end reads as the log cut off at the same place, or is mended
+/// to a prefix of it.
 pub fn zeroed()
     ensures { (held bytes : List ℕ) (records : List (List ℕ)) (tail : TailValue)
         → IsLog held records tail → IsZeroed held bytes → AreWritten held bytes → AreAllBytes bytes
         → ReadsAsCut held bytes ⊎ IsMendedTo held bytes }
 {}
 
-/// Law: so does a log with zeros anywhere, or its first broken fragment follows a prefix of what
-/// was held.
+/// Proves that so does a log with zeros anywhere, or its first broken fragment follows a prefix of
+/// what was held.
 pub fn holed()
     ensures { (held bytes : List ℕ) (records : List (List ℕ)) (tail : TailValue)
         → IsLog held records tail → IsHoled held bytes → AreWritten held bytes → AreAllBytes bytes
