@@ -36,23 +36,24 @@ pub fn read_log(alloc: Global, bytes: &[u8]) -> Result<(Vec<Vec<u8>>, Tail), Rea
     Ok((records, tail))
 }
 
-/// Law: no bytes are two logs.
+/// Proves that no bytes are two logs.
 pub fn one_reading()
     ensures { (bytes : List ℕ) (records others : List (List ℕ)) (tail end : TailValue)
         → IsLog bytes records tail → IsLog bytes others end → (records ≡ others) × (tail ≡ end) }
 {}
 
-/// Law: bytes with a fault are no log.
+/// Proves that bytes with a fault are no log.
 pub fn faults_are_real()
     ensures { (what : Damage) (bytes : List ℕ) (records : List (List ℕ)) (tail : TailValue) → HasFault what bytes → IsLog bytes records tail → ⊥ }
 {}
 
-/// Law: no bytes have faults of two kinds.
+/// Proves that no bytes have faults of two kinds.
 pub fn one_kind_of_fault()
     ensures { (what other : Damage) (bytes : List ℕ) → HasFault what bytes → HasFault other bytes → what ≡ other }
 {}
 
-/// Law: any bytes of a log that begin at a block are blocks of a log. So is each single block.
+/// Proves that any bytes of a log that begin at a block are blocks of a log. So is each single
+/// block.
 pub fn each_block()
     ensures { (bytes : List ℕ) (records : List (List ℕ)) (tail : TailValue) (k n : ℕ) → IsLog bytes records tail
         → (fragments : List Fragment) × (cut : Bool) × AreBlocks (take n (drop (32768 * k) bytes)) fragments cut }

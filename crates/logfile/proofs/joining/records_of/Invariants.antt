@@ -5,8 +5,8 @@ use Rattle.logfile.specs.Views.{views}
 use Rattle.logfile.proofs.Joins.{JoinFrom, NoJoin}
 use Rattle.logfile.proofs.joining.records_of.Given as goal
 
--- The records so far, and those that the rest joins to, are those of all. If the rest joins to none,
--- all does.
+-- The records so far, and those that the rest joins to, are those of all. If the rest joins to
+-- none, all does.
 abbrev pub invariant-loop-fragment : goal.invariant-loop-fragment
 invariant-loop-fragment l = record {
   grows : (more : List (List ℕ)) (begun : Bool) → JoinFrom l.inside l.unfinished.items (views (drop l.fragment-index l.fragments)) more begun → Join false (views l.fragments) (map (λ r. r.items) l.records.items ++ more) begun;
