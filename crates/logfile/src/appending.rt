@@ -33,9 +33,9 @@ pub fn one_writing()
     ensures { (room : ℕ) (payload bytes other : List ℕ) → IsWritten room payload bytes → IsWritten room payload other → bytes ≡ other }
 {}
 
-/// Proves how many bytes the writer adds, exactly and within bounds that don't depend on the room. At
-/// least: a header and the payload. At most: six zeros, the payload, a header for each 32,761 bytes of
-/// it, and two headers more.
+/// Proves how many bytes the writer adds, exactly and within bounds that don't depend on the room.
+/// At least: a header and the payload. At most: six zeros, the payload, a header for each 32,761
+/// bytes of it, and two headers more.
 pub fn written_length()
     ensures length { (room : ℕ) (payload bytes : List ℕ) → IsWritten room payload bytes → length bytes ≡ added_length room (length payload) }
     ensures least { (room size : ℕ) → size + 7 ≤ added_length room size }
