@@ -1,7 +1,0 @@
-use Rattle.std.proofs.Common.{◌≡◌, ◌++◌, take}
-use Rattle.browse.specs.Forms.{escaped}
-use Rattle.browse.proofs.form.push_escaped.Given as goal
-
--- the bytes so far stand behind the text
-abbrev pub invariant-loop-byte : goal.invariant-loop-byte
-invariant-loop-byte l = l.text.items ≡ l.fn.text.items ++ escaped (take l.byte-index l.bytes)
