@@ -13,13 +13,10 @@ FOLDER = "crates/store/src/folder.rt"
 
 FORGETS_NOT = [("        self.kept.clear();\n", "")]
 
-BEGINS = "        if self.lock.is_none() {\n            self.begin()?;\n        }\n", ""
-
 # of each bug what it replaces by what, wherever that stands in folder.rt
 PLANTS = {
     "a folder that keeps its files open past the lock": FORGETS_NOT,
-    "a folder that keeps its files open where it is listed without the lock": [BEGINS],
-    "a reader takes any file of a name": [("Some(seen) => *seen == found,", "Some(_) => true,")],
+    "a folder whose reader takes any file of a name": [("Some(seen) => *seen == found,", "Some(_) => true,")],
 }
 
 

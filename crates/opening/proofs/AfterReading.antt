@@ -1,17 +1,20 @@
 -- What of an open's writing is synced, after what it only read.
-use Rattle.std.proofs.Common.{◌≡◌, ℕ, ap, sym, subst, ◌∙◌, Result, Ok, Err, IsTrue, inl, inr, arith}
+use Rattle.std.proofs.Common.{◌≡◌, ◌<◌, ℕ, ap, sym, subst, ◌∙◌, Result, Ok, Err, IfErr, IsTrue, inl, inr, arith}
 use Rattle.std.specs.FinMap.{get}
 use Rattle.coding.specs.declared.error.DbError.{DbError}
 use Rattle.coding.specs.declared.error.DbError.TheVariants as error
 use Rattle.ikey.specs.Orders.{Order}
+use Rattle.machine.specs.declared.command.Mode.{Mode}
 use Rattle.recover.specs.Reading.{ReadsDirectory}
 use Rattle.store.specs.Files.{Facts, Files, Synced}
 use Rattle.edits.specs.Names.{name_of}
 use Rattle.edits.specs.declared.names.FileName.TheVariants.{Current}
 use Rattle.opening.specs.Durable.{LeavesFile, LeavesDurable}
-use Rattle.opening.specs.Refusals.{MayRefuseOpen}
+use Rattle.opening.specs.Refusals.{IsMet, MayRefuseOpen}
 use Rattle.opening.specs.Telling.{RefusalTells, Tells}
+use Rattle.opening.specs.internal.Begun.{IsUnwritten}
 use Rattle.opening.specs.internal.Calls.{Attempts}
+use Rattle.opening.specs.internal.Opening.{RefusesOpen}
 use Rattle.opening.specs.internal.Outcome.{OpenOutcome}
 use Rattle.opening.specs.internal.Durable.{Spares, SparesBeside}
 
@@ -66,3 +69,28 @@ outcome_behind old mid new e reads stood a = record {
 pub tells_behind : {T U : Type 0} (order : Order) (files : Files) (mid new : Facts) (e : DbError) (result : Result U DbError) → result ≡ Err e → Attempts {T = T} mid new (Err e) → Tells order files result
 tells_behind {T} {U} order files mid new e result is a = subst (λ (r : Result U DbError). Tells order files r) (sym is)
     (elim a.errors [ inl memory ↦ subst (RefusalTells order files) (sym memory) tt | inr io ↦ subst (RefusalTells order files) (sym io) tt ])
+
+-- ---- a write that failed, after what was only read
+
+pub met_behind : {T U : Type 0} (mid new : Facts) (e : DbError) (result : Result U DbError) → result ≡ Err e → Attempts {T = T} mid new (Err e) → IfErr result IsMet
+met_behind mid new e result is a =
+    subst (λ (r : Result _ DbError). IfErr r IsMet) (sym is) (elim a.errors [ inl memory ↦ subst IsMet (sym memory) tt | inr io ↦ subst IsMet (sym io) tt ])
+
+pub stood_behind : {T U : Type 0} (old mid new : Facts) (e : DbError) (result : Result U DbError) → result ≡ Err e → mid.failures ≡ old.failures → Attempts {T = T} mid new (Err e)
+    → result ≡ Err error.OutOfMemory → new.failures ≡ old.failures
+stood_behind old mid new e result is stood a memory =
+    let both : Err e ≡ Err error.OutOfMemory = sym is ∙ memory in
+    let same : e ≡ error.OutOfMemory = cc in
+    a.unfailed (λ io. (let bad : e ≡ error.Io = cc in let other : error.OutOfMemory ≡ error.Io = sym same ∙ bad in cc)) ∙ stood
+
+pub refused_behind : {T U : Type 0} (order : Order) (mode : Mode) (old mid new : Facts) (e : DbError) (result : Result U DbError) → result ≡ Err e → mid.failures ≡ old.failures → Attempts {T = T} mid new (Err e)
+    → IfErr result (λ error. RefusesOpen order mode error old new)
+refused_behind order mode old mid new e result is stood a =
+    subst (λ (r : Result _ DbError). IfErr r (λ x. RefusesOpen order mode x old new)) (sym is)
+    (elim a.errors [
+      | inl memory ↦ subst (λ (x : DbError). RefusesOpen order mode x old new) (sym memory) tt
+      | inr io ↦ subst (λ (x : DbError). RefusesOpen order mode x old new) (sym io) (let rise = a.io (ap Err io) in omega (arith, rise, stood))
+    ])
+
+pub unwritten_behind : {T U : Type 0} (old mid new : Facts) (e : DbError) (result : Result U DbError) → result ≡ Err e → Attempts {T = T} mid new (Err e) → IfErr result (λ error. IsUnwritten error old new)
+unwritten_behind old mid new e result is a = subst (λ (r : Result _ DbError). IfErr r (λ x. IsUnwritten x old new)) (sym is) (inr a.errors)

@@ -11,7 +11,7 @@ use Rattle.opening.proofs.FoundEach.{begins_each, behind_each, stops_behind_each
 use Rattle.opening.specs.internal.Outcome.{OpenOutcome}
 use Rattle.opening.specs.Telling.{Tells}
 use Rattle.opening.proofs.Telling.{found_openable, store_tells}
-use Rattle.opening.proofs.AfterReading.{behind_read, beside_behind, outcome_behind, spared_behind, spared_same}
+use Rattle.opening.proofs.AfterReading.{behind_read, beside_behind, met_behind, outcome_behind, refused_behind, spared_behind, spared_same, stood_behind, unwritten_behind}
 use Rattle.opening.proofs.InDoubt.{entries_or_none, in_doubt, logs_found, tables_found}
 use Rattle.opening.proofs.LosingOpens.{behind_loses, unwritten_loses}
 use Rattle.opening.proofs.RenewSteps.{all_behind, renews_behind}
@@ -152,6 +152,41 @@ returns-in_err-rewrite_directory-clause-outcome g c =
     let is : c.from_residual-in_err-rewrite_directory.result ≡ Err e = search rules in
     subst (λ (r : Result (Begun _) DbError). OpenOutcome old new r) (sym is)
     (outcome_behind {T = Unit {0}} {U = Begun _} old mid new e c.in_ok-found.ensures.store c.in_ok-found.ensures.counted c.in_err-rewrite_directory.ensures.files.call)
+
+pub returns-in_err-rewrite_directory-clause-met : goal.returns-in_err-rewrite_directory-clause-met
+returns-in_err-rewrite_directory-clause-met g c =
+    let mid = g.S.Store.facts c.find.new.store in
+    let new = g.S.Store.facts c.rewrite_directory.new.store in
+    let e = c.in_err-rewrite_directory.field-0.0 in
+    let is : c.from_residual-in_err-rewrite_directory.result ≡ Err e = search rules in
+    met_behind mid new e _ is c.in_err-rewrite_directory.ensures.files.call
+
+pub returns-in_err-rewrite_directory-clause-stood : goal.returns-in_err-rewrite_directory-clause-stood
+returns-in_err-rewrite_directory-clause-stood g c =
+    let old = g.S.Store.facts c.args.store.now in
+    let mid = g.S.Store.facts c.find.new.store in
+    let new = g.S.Store.facts c.rewrite_directory.new.store in
+    let e = c.in_err-rewrite_directory.field-0.0 in
+    let is : c.from_residual-in_err-rewrite_directory.result ≡ Err e = search rules in
+    stood_behind old mid new e _ is c.in_ok-found.ensures.counted c.in_err-rewrite_directory.ensures.files.call
+
+pub returns-in_err-rewrite_directory-clause-refused : goal.returns-in_err-rewrite_directory-clause-refused
+returns-in_err-rewrite_directory-clause-refused g c =
+    let old = g.S.Store.facts c.args.store.now in
+    let mid = g.S.Store.facts c.find.new.store in
+    let new = g.S.Store.facts c.rewrite_directory.new.store in
+    let e = c.in_err-rewrite_directory.field-0.0 in
+    let is : c.from_residual-in_err-rewrite_directory.result ≡ Err e = search rules in
+    refused_behind (order_of g.K.KeyOrder.name g.K.KeyOrder.cmp) c.args.mode old mid new e _ is c.in_ok-found.ensures.counted c.in_err-rewrite_directory.ensures.files.call
+
+pub returns-in_err-rewrite_directory-clause-unwritten : goal.returns-in_err-rewrite_directory-clause-unwritten
+returns-in_err-rewrite_directory-clause-unwritten g c =
+    let old = g.S.Store.facts c.args.store.now in
+    let mid = g.S.Store.facts c.find.new.store in
+    let new = g.S.Store.facts c.rewrite_directory.new.store in
+    let e = c.in_err-rewrite_directory.field-0.0 in
+    let is : c.from_residual-in_err-rewrite_directory.result ≡ Err e = search rules in
+    unwritten_behind old mid new e _ is c.in_err-rewrite_directory.ensures.files.call
 
 -- ---- what a process crash leaves
 
