@@ -4,15 +4,16 @@
 _ldbtool_options() {
     local sizes="--write-buffer= --block-bytes= --file-bytes= --level0-files= --base-bytes= --cache-blocks="
     case $1 in
-        get) echo "--text --order= --help" ;;
-        scan) echo "--from= --to= --prefix= --limit= --reverse --values --text --json --order= --help" ;;
-        export) echo "--order= --help" ;;
+        get) echo "--text --raw --order= --help" ;;
+        scan) echo "--from= --to= --prefix= --limit= --reverse --count --values --text --json --order= --help" ;;
+        export) echo "--from= --to= --prefix= --order= --help" ;;
         check) echo "--keep-going --order= --help" ;;
         stats) echo "--json --order= --help" ;;
         dump) echo "--text --json --keep-going --order= --help" ;;
         run) echo "--work= --strict $sizes --order= --help" ;;
-        import) echo "--batch= --sync $sizes --order= --help" ;;
+        import) echo "--batch= --sync --create $sizes --order= --help" ;;
         compact) echo "--level= $sizes --order= --help" ;;
+        put | del) echo "--text --order= --help" ;;
     esac
 }
 
@@ -82,7 +83,7 @@ _ldbtool_rest() {
 }
 
 _ldbtool() {
-    local words last verbs="get scan export stats check dump run import compact"
+    local words last verbs="get scan export stats check dump run import compact put del"
     COMPREPLY=()
     _ldbtool_words
     case ${words[0]-} in

@@ -7,7 +7,7 @@ import subprocess
 from files import ONE_TABLE, Manifest, bytes_of, log_file, new_folder, spelled, table_file, with_table, write_directory
 from folders import as_a_user
 from listed import check
-from running import SECONDS, ldbtool, lines, no_current, under_test, want, want_answers, want_fault, want_printed, want_ran
+from running import SECONDS, ldbtool, lines, no_current, under_test, want, want_answers, want_fault, want_printed, want_ran, want_refused
 from streams import at_hand, want_beginning, want_next
 
 REVERSE = ("--order", "reverse")
@@ -39,18 +39,20 @@ def in_order(turned=False):
 def gets(room):
     folder = filled(room)
     for key, value in WORDS.items():
-        want_printed(["get", folder, key], 0, value)
-        want_printed(["get", folder, key.upper()], 0, value)
-        want_printed(["get", "--order=bytes", folder, key], 0, value)
+        # (a hyphen alone asks for the keys of standard input)
+        words = [key, key] if key == "-" else [key]
+        want_printed(["get", folder, *words], 0, *[value for _ in words])
+        want_printed(["get", folder, *[it.upper() for it in words]], 0, *[value for _ in words])
+        want_printed(["get", "--order=bytes", folder, *words], 0, *[value for _ in words])
     for key in ("6162", "6101", "62", "fffe", "ffffff", "0000", "61" * 30_000):
         want_printed(["get", folder, key], 4)
-    for key, value in (("a", "1"), ("key", "value"), ("", "v"), ("\x7f ", "\\~")):
+    for key, value in (("a", "1"), ("key", "value"), ("", "v"), ("\x7f ", "\\\\~"), ("\\x7f ", "\\\\~"), ("a\\xff", "3"), ("a\\xFF", "3")):
         want_printed(["get", "--text", folder, key], 0, value)
         want_printed(["get", folder, key, "--text"], 0, value)
-    for key in ("b", "61", "-", "key "):
+    for key in ("b", "61", "key "):
         want_printed(["get", "--text", "--", folder, key], 4)
     raw = write_directory(room, "raw", Manifest(log=2, next_file=3), {"000002.log": log_file([(1, [("2d78", "00097f80ff5c2022"), ("c3a9", "c3a9"), ("62", None)])])})
-    want_printed(["get", "--text", "--", raw, "-x"], 0, '\\x00\\x09\\x7f\\x80\\xff\\ "')
+    want_printed(["get", "--text", "--", raw, "-x"], 0, '\\x00\\x09\\x7f\\x80\\xff\\\\ "')
     want_printed(["get", "--text", raw, "\u00e9"], 0, "\\xc3\\xa9")
     want_printed(["get", raw, "c3a9"], 0, "c3a9")
     want_printed(["get", raw, "62"], 4)
@@ -59,11 +61,78 @@ def gets(room):
 @check("reverse: get finds what the order has, and scan walks it")
 def turned(room):
     folder = filled(room, "folder", *REVERSE)
-    for key, value in WORDS.items():
-        want_printed(["get", *REVERSE, folder, key], 0, value)
+    want_printed(["get", *REVERSE, folder, *WORDS], 0, *WORDS.values())
     want_printed(["scan", *REVERSE, folder], 0, *in_order(True))
     want_printed(["scan", *REVERSE, "--reverse", folder], 0, *in_order(True)[::-1])
     want_printed(["scan", *REVERSE, "--from", "61ff", "--to", "61", folder], 0, "61ff", "6161", "6100")
+
+
+@check("get prints a line for each key, of the command line or of standard input, in their order; \\N is one without a value")
+def gets_many(room):
+    folder = filled(room)
+    keys, wanted = ["61", "6162", "6100", "61", "ffff", "0000"], ["31", "\\N", "3100", "31", "00", "\\N"]
+    want_printed(["get", folder, *keys], 4, *wanted)
+    want_printed(["get", folder, "-"], 4, *wanted, script=lines(*keys))
+    want_printed(["get", folder, "-"], 4, *wanted, script=lines(*keys)[:-1])
+    want_printed(["get", folder, "-"], 0, script=b"")
+    want_printed(["get", folder, "-"], 0, *WORDS.values(), script=lines(*WORDS))
+    want_printed(["get", "--text", folder, "a", "b", "a\\xff"], 4, "1", "\\N", "3")
+    want_printed(["get", "--text", folder, "-"], 0, "v", "1", script=b"\na\n")
+    want_printed(["get", folder, "-"], 0, *["31"] * 3_000, script=lines(*["61"] * 3_000))
+    for script, line in ((b"61\n6\n61\n", 2), (b"\n", 1), (b"61\r\n", 1)):
+        ran = ldbtool("get", folder, "-", script=script)
+        want((ran.returncode, ran.stdout, ran.stderr), (1, b"", f"ldbtool: line {line}: a key in hexadecimal is wanted, two digits a byte, or - for the empty one\n".encode()), f"the keys {script}")
+    want(ldbtool("get", "--text", folder, "-", script=b"a\n\\q\n").returncode, 1, "a key that is no text")
+
+
+@check("get --raw writes the bytes of a value alone, whatever they are")
+def raw_values(room):
+    value = bytes(range(256)) * 100
+    folder = write_directory(room, "raw", Manifest(log=2, next_file=3), {"000002.log": log_file([(1, [("61", value.hex()), ("62", ""), ("63", None)])])})
+    for key, wanted, status in (("61", value, 0), ("62", b"", 0), ("63", b"", 4), ("64", b"", 4)):
+        ran = ldbtool("get", "--raw", folder, key)
+        want((ran.returncode, ran.stdout, ran.stderr), (status, wanted, b""), f"the bytes of {key}")
+    want(ldbtool("get", "--raw", "--text", folder, "a").stdout, value, "a key as text")
+
+
+@check("what --text prints of any key and value is taken back as the same bytes")
+def texts_return(room):
+    some = (0, 9, 10, 13, 31, 32, 34, 45, 47, 91, 92, 93, 120, 126, 127, 128, 255)
+    pairs = {bytes([n]): bytes([n, 92, n]) for n in some} | {b"": b"\\", b"\\x41": b"\\\\", bytes(range(256)): b"-"}
+    entries = [(key.hex(), value.hex()) for key, value in pairs.items()]
+    folder = write_directory(room, "folder", Manifest(log=2, next_file=3), {"000002.log": log_file([(1, entries)])})
+    keys = ldbtool("scan", "--text", folder).stdout
+    want(ldbtool("scan", folder).stdout.decode().splitlines(), [key.hex() or "-" for key in sorted(pairs)], "the keys")
+    values = [ldbtool("get", "--raw", folder, "--text", "--", key).stdout for key in keys.decode().splitlines() if key != "-"]
+    want(values, [pairs[key] for key in sorted(pairs) if key != b"-"], "the values of the texts of the keys")
+    ran = ldbtool("get", "--text", folder, "-", script=keys)
+    want((ran.returncode, len(ran.stdout.splitlines())), (0, len(pairs)), "all of them")
+    copy = new_folder(room, "copy")
+    for key, value in zip(keys.decode().splitlines(), ran.stdout.decode().splitlines()):
+        want_printed(["put", "--text", "--", copy, key, value], 0)
+    want(ldbtool("export", copy).stdout, ldbtool("export", folder).stdout, "a copy by text")
+
+
+@check("put writes a pair and del deletes a key, each synced, and a refusal is said on standard error alone")
+def one_by_one(room):
+    folder = new_folder(room)
+    want_refused(["del", folder, "61"], "3 NoDatabase")
+    want_printed(["put", folder, "61", "31"], 0)
+    want_printed(["put", "--text", folder, "b", "\\x00"], 0)
+    want_printed(["put", folder, "-", "-"], 0)
+    want_printed(["scan", "--values", folder], 0, "- -", "61 31", "62 00")
+    want_printed(["put", folder, "61", "32"], 0)
+    want_printed(["del", folder, "62"], 0)
+    want_printed(["del", folder, "62"], 0)
+    want_printed(["scan", "--values", folder], 0, "- -", "61 32")
+    want_printed(["put", *REVERSE, new_folder(room, "turned"), "61", "31"], 0)
+    want_refused(["put", *REVERSE, folder, "61", "31"], "6 Unsupported")
+    want_refused(["put", "--text", folder, "a" * 65_536, "31"], "11 KeyTooLong")
+    with at_hand(folder) as ran:
+        want_next(ran, b"open\n", b"ok\n")
+        want_refused(["put", folder, "61", "33"], "18 Locked")
+        want_refused(["del", folder, "61"], "18 Locked")
+    want_printed(["get", folder, "61"], 0, "32")
 
 
 # ---- scan
@@ -139,6 +208,24 @@ def exports(room):
     want_printed(["export", *REVERSE, filled(room, "turned", *REVERSE)], 0, *[f"put {key} {WORDS[key]}" for key in in_order(True)])
 
 
+@check("a scan counts the pairs that it would print, and an export has those of a range")
+def counts_and_parts(room):
+    folder = filled(room)
+    for options in ([], ["--limit", "3"], ["--from", "61", "--to", "62"], ["--prefix", "61", "--reverse"], ["--values", "--json"], ["--text", "--from", "a"], ["--limit", "0"]):
+        found = ldbtool("scan", *options, folder).stdout.count(b"\n")
+        want_printed(["scan", "--count", *options, folder], 0, str(found))
+    for options, keys in ((["--from", "61"], in_order()[2:]), (["--to", "61"], in_order()[:2]), (["--prefix", "61", "--to", "6162"], ["61", "6100", "6161"])):
+        want_printed(["export", *options, folder], 0, *[f"put {key} {WORDS[key]}" for key in keys])
+    some = ldbtool("export", "--prefix", "61", folder).stdout
+    want_printed(["import", "--create", f"{room}/made"], 0, f"taken {some.count(bytes([10]))}", script=some)
+    want_printed(["import", "--create", f"{room}/made"], 0, "taken 0")
+    want(ldbtool("export", f"{room}/made").stdout, some, "the part")
+    want_fault(ldbtool("import", "--create", f"{room}/none/below"), 1, "a folder below one that isn't there")
+    with open(f"{room}/file", "wb"):
+        pass
+    want_fault(ldbtool("import", "--create", f"{room}/file"), 1, "a folder of the name of a file")
+
+
 @check("many pairs come whole and in order, forwards, backwards and in parts, out of several levels")
 def many(room):
     folder = new_folder(room)
@@ -166,7 +253,7 @@ ENTRIES = "open new; put - 76; put 0a1b 095b; put 225c 22; compact all; put c3a9
 DUMPS = [
     ("", ["table 6 5 - 1 put 76", "table 6 5 0a1b 2 put 095b", "table 6 5 225c 3 put 22",
           "log 3 c3a9 4 put -", "log 3 0a1b 5 delete", "log 3 ff20 6 put ff7f", "log 3 6b6579 7 put 76616c7565"]),
-    ("--text", ["table 6 5  1 put v", "table 6 5 \\x0a\\x1b 2 put \\x09[", 'table 6 5 "\\ 3 put "',
+    ("--text", ["table 6 5  1 put v", "table 6 5 \\x0a\\x1b 2 put \\x09[", 'table 6 5 "\\\\ 3 put "',
                 "log 3 \\xc3\\xa9 4 put ", "log 3 \\x0a\\x1b 5 delete", "log 3 \\xff  6 put \\xff\\x7f", "log 3 key 7 put value"]),
     ("--json", ['{"file":"table","level":6,"number":5,"key":"","sequence":1,"kind":"put","value":"76"}',
                 '{"file":"table","level":6,"number":5,"key":"0a1b","sequence":2,"kind":"put","value":"095b"}',
@@ -206,9 +293,9 @@ def damaged_directory(room, name, first=ONE_TABLE, second=SECOND_TABLE, log=log_
 EACH_ENTRY = {"table 1 5": "table 1 5 61 1 put 31", "table 1 6": "table 1 6 62 2 put 32", "log 7": "log 7 63 3 put 33"}
 DAMAGES = [
     ({}, []),
-    ({"first": ONE_TABLE[:5] + b"\x00" + ONE_TABLE[6:]}, ["table 1 5: refused 5 Corrupt, a table: a checksum isn't that of its bytes"]),
-    ({"second": SECOND_TABLE[:-1] + b"x"}, ["table 1 6: refused 5 Corrupt, a table: "]),
-    ({"first": b"", "log": b"\x00" * 7 + b"rubbish" * 9}, ["table 1 5: refused 5 Corrupt, a table: it ends too soon", "log 7: refused 5 Corrupt, a log: "]),
+    ({"first": ONE_TABLE[:5] + b"\x00" + ONE_TABLE[6:]}, ["table 1 5: refused 5 Corrupt: a table has a checksum that doesn't fit its bytes"]),
+    ({"second": SECOND_TABLE[:-1] + b"x"}, ["table 1 6: refused 5 Corrupt: a table "]),
+    ({"first": b"", "log": b"\x00" * 7 + b"rubbish" * 9}, ["table 1 5: refused 5 Corrupt: a table ends too soon", "log 7: refused 5 Corrupt: a log "]),
     ({"first": b"x", "second": b"y", "log": b"\x00" * 7 + b"rubbish" * 9}, ["table 1 5: refused 5", "table 1 6: refused 5", "log 7: refused 5"]),
 ]  # fmt: skip
 
@@ -248,11 +335,12 @@ def reasons_of_lines(room):
 @check("why a directory was refused is said by each command: what kind of file is damaged and how, and which one it is or how to see that")
 def reasons_of_directories(room):
     damage = {"first": ONE_TABLE[:5] + b"\x00" + ONE_TABLE[6:]}
-    why = "refused 5 Corrupt, a table: a checksum isn't that of its bytes"
+    why = "refused 5 Corrupt: a table has a checksum that doesn't fit its bytes"
     for n, words in enumerate([["get", "61"], ["scan"], ["export"], ["compact"], ["check"], ["dump"]]):
         folder = damaged_directory(room, f"folder {n}", **damage)
         ran = ldbtool(words[0], folder, *words[1:])
-        want((ran.returncode, ran.stdout.splitlines()[-1]), (1, b"refused 5 Corrupt"), f"{words}")
+        is_data = words[0] in ("get", "scan", "export")
+        want((ran.returncode, ran.stdout), (1, b"" if is_data else b"refused 5 Corrupt\n"), f"{words}")
         said = [f"table 1 5: {why}"] if words[0] in ("check", "dump") else [why, "`ldbtool check --keep-going"]
         want_said(ran, folder, said, f"{words}")
     folder = damaged_directory(room, "script", **damage)
@@ -262,7 +350,7 @@ def reasons_of_directories(room):
     none = write_directory(room, "no manifest", None, {"CURRENT": b"MANIFEST-000009\n"})
     for command in ("get", "scan", "export", "stats", "check", "dump", "compact"):
         ran = ldbtool(command, none, *(["61"] if command == "get" else []))
-        want(ran.stderr.decode().splitlines()[0], f"ldbtool: {none}: refused 5 Corrupt, the MANIFEST: a file or a field that has to be there is missing", command)
+        want(ran.stderr.decode().splitlines()[0], f"ldbtool: {none}: refused 5 Corrupt: the MANIFEST isn't there, or lacks a field that it must have", command)
     want_said(ldbtool("get", new_folder(room, "empty"), "61"), f"{room}/empty", ["refused 3 NoDatabase: there is no database"], "no database")
 
 
@@ -284,7 +372,7 @@ def kept_going(room):
     want_printed(["dump", "--keep-going", twice], 0, *list(EACH_ENTRY.values())[:2], "log 7 61 1 put 33")
     none = write_directory(room, "no manifest", None, {"CURRENT": b"MANIFEST-000009\n"})
     want_printed(["dump", "--keep-going", none], 1, "refused 5 Corrupt")
-    want_said(ldbtool("check", "--keep-going", none), none, ["refused 5 Corrupt, the MANIFEST: a file or a field"], "no MANIFEST")
+    want_said(ldbtool("check", "--keep-going", none), none, ["refused 5 Corrupt: the MANIFEST isn't there", "no MANIFEST is here"], "no MANIFEST")
     empty = new_folder(room, "empty")
     for words in (["check"], ["dump"]):
         want(ldbtool(*words, "--keep-going", empty).stderr, no_current(empty), f"{words} of an empty folder")
@@ -367,7 +455,7 @@ def due_levels(room):
             want((head["recorded-sequence"], levels[level], logs), ("2", (2, size, is_due), {}), f"level {level}")
 
 
-@check("each object of stats says what its line of words does; of a folder without a database nothing is said, of a refused one the refusal")
+@check("each object of stats says what its line of words does; of a folder without a database, and of a refused one, nothing is printed")
 def objects_of_stats(room):
     folder = filled(room)
     head, levels, logs = described(folder)
@@ -377,11 +465,10 @@ def objects_of_stats(room):
     want({it["log"]: it["bytes"] for it in found[8:]}, logs, "the logs")
     empty = new_folder(room, "empty")
     for options in ((), ("--json",)):
-        ran = ldbtool("stats", *options, empty)
-        want((ran.returncode, ran.stdout, ran.stderr), (0, b"", no_current(empty)), "stats of an empty folder")
-    want_printed(["stats", *REVERSE, folder], 1, "refused 6 Unsupported")
-    want_printed(["stats", write_directory(room, "no manifest", None, {"CURRENT": b"MANIFEST-000009\n"})], 1, "refused 5 Corrupt")
-    want_printed(["stats", write_directory(room, "no CURRENT", None, {"000005.ldb": b"x"})], 1, "refused 5 Corrupt")
+        want_refused(["stats", *options, empty], "3 NoDatabase")
+    want_refused(["stats", *REVERSE, folder], "6 Unsupported")
+    want_refused(["stats", write_directory(room, "no manifest", None, {"CURRENT": b"MANIFEST-000009\n"})], "5 Corrupt")
+    want_refused(["stats", write_directory(room, "no CURRENT", None, {"000005.ldb": b"x"})], "5 Corrupt")
     # (damage in a table or a log isn't looked for)
     want(ldbtool("stats", with_table(room, "table", ONE_TABLE[:5] + b"\x00" + ONE_TABLE[6:])).returncode, 0, "a damaged table")
 
@@ -389,24 +476,25 @@ def objects_of_stats(room):
 # ---- refusals
 
 
-def want_each(folder, status, *printed, options=(), key="61"):
-    for words in (["get", *options, folder, key], ["scan", *options, folder], ["scan", *options, "--reverse", folder], ["export", *options, folder]):
-        want_printed(words, status, *printed)
+def want_each(folder, refusal, options=()):
+    """Each of them is refused so, of which standard error alone says something."""
+    for words in (["get", folder, "61"], ["get", folder, "61", "62"], ["scan", folder], ["scan", "--reverse", folder], ["scan", "--count", folder], ["export", folder]):
+        want_refused([*words, *options], refusal)
 
 
 @check("an empty folder, a damaged one, and one of another order or with compressed blocks are refused by get, scan and export")
 def refused(room):
-    want_each(new_folder(room, "empty"), 1, "refused 3 NoDatabase")
-    want_each(filled(room, "bytes"), 1, "refused 6 Unsupported", options=REVERSE)
-    want_each(write_directory(room, "no manifest", None, {"CURRENT": b"MANIFEST-000009\n"}), 1, "refused 5 Corrupt")
-    want_each(write_directory(room, "rubbish", None, {"CURRENT": b"MANIFEST-000001\n", "MANIFEST-000001": b"rubbish"}), 1, "refused 5 Corrupt")
-    want_each(with_table(room, "table", ONE_TABLE[:5] + b"\x00" + ONE_TABLE[6:]), 1, "refused 5 Corrupt")
+    want_each(new_folder(room, "empty"), "3 NoDatabase")
+    want_each(filled(room, "bytes"), "6 Unsupported", options=REVERSE)
+    want_each(write_directory(room, "no manifest", None, {"CURRENT": b"MANIFEST-000009\n"}), "5 Corrupt")
+    want_each(write_directory(room, "rubbish", None, {"CURRENT": b"MANIFEST-000001\n", "MANIFEST-000001": b"rubbish"}), "5 Corrupt")
+    want_each(with_table(room, "table", ONE_TABLE[:5] + b"\x00" + ONE_TABLE[6:]), "5 Corrupt")
     # (a script's bad log)
     log = log_file([(1, [("61", "31")])])
-    want_each(write_directory(room, "log", Manifest(log=2, next_file=3), {"000002.log": b"\x00" + log[1:] + log}), 1, "refused 5 Corrupt")
+    want_each(write_directory(room, "log", Manifest(log=2, next_file=3), {"000002.log": b"\x00" + log[1:] + log}), "5 Corrupt")
 
 
-@check("a refusal that a scan meets stands behind the lines of what came before it")
+@check("what a scan, an export or a get printed before a refusal holds, and standard error alone says the refusal")
 def refused_behind(room):
     folder = new_folder(room)
     want_answers(folder, "open new; put 61 31; put 62 32; put 63 33; compact all; close", "ok; ok; ok; ok; ok; ok", "--block-bytes", "1")
@@ -415,12 +503,14 @@ def refused_behind(room):
     table[at] ^= 1
     with open(f"{folder}/000005.ldb", "wb") as file:
         file.write(table)
-    want_printed(["scan", "--values", folder], 1, "61 31", "62 32", "refused 5 Corrupt")
-    want_printed(["export", folder], 1, "put 61 31", "put 62 32", "refused 5 Corrupt")
-    want_printed(["scan", "--reverse", folder], 1, "refused 5 Corrupt")
+    want_refused(["scan", "--values", folder], "5 Corrupt", "61 31", "62 32")
+    want_refused(["export", folder], "5 Corrupt", "put 61 31", "put 62 32")
+    want_refused(["scan", "--reverse", folder], "5 Corrupt")
+    want_refused(["scan", "--count", folder], "5 Corrupt")
+    want_refused(["get", folder, "61", "63", "62"], "5 Corrupt", "31")
     want_printed(["scan", "--limit", "2", folder], 0, "61", "62")
     want_printed(["get", folder, "61"], 0, "31")
-    want_printed(["get", folder, "63"], 1, "refused 5 Corrupt")
+    want_refused(["get", folder, "63"], "5 Corrupt")
 
 
 # ---- nothing is changed

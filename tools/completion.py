@@ -18,11 +18,11 @@ from listed import Wrong, check
 from repository import ROOT
 from running import SECONDS, ldbtool, want
 
-VERBS = ["get", "scan", "export", "stats", "check", "dump", "run", "import", "compact"]
+VERBS = ["get", "scan", "export", "stats", "check", "dump", "run", "import", "compact", "put", "del"]
 SIZES = ["--write-buffer", "--block-bytes", "--file-bytes", "--level0-files", "--base-bytes", "--cache-blocks"]
 COMMON = ["--order", "--help"]
 RUN = ["--work", "--strict", *SIZES, *COMMON]
-SCAN = ["--from", "--to", "--prefix", "--limit", "--reverse", "--values", "--text", "--json", *COMMON]
+SCAN = ["--from", "--to", "--prefix", "--limit", "--reverse", "--count", "--values", "--text", "--json", *COMMON]
 FOLDERS = ["one", "some folder", "two"]
 
 # The words before, the start of the next one, and what is offered for it. (The long one of two
@@ -31,22 +31,27 @@ OFFERED = [
     ([], "", [*VERBS, "help"]),
     ([], "r", ["run"]),
     ([], "c", ["check", "compact"]),
+    ([], "p", ["put"]),
+    ([], "d", ["dump", "del"]),
     ([], "x", []),
     ([], "--", ["--help", "--version"]),
     (["help"], "", VERBS),
-    (["help"], "d", ["dump"]),
+    (["help"], "d", ["dump", "del"]),
     (["help", "run"], "", []),
     *[([verb], "", FOLDERS) for verb in VERBS],
     (["run"], "o", ["one"]),
     (["dump"], "t", ["two"]),
-    (["get"], "--", ["--text", *COMMON]),
+    (["put"], "t", ["two"]),
+    (["get"], "--", ["--text", "--raw", *COMMON]),
+    (["put"], "--", ["--text", *COMMON]),
+    (["del"], "--", ["--text", *COMMON]),
     (["scan"], "--", SCAN),
-    (["export"], "--", COMMON),
+    (["export"], "--", ["--from", "--to", "--prefix", *COMMON]),
     (["stats"], "--", ["--json", *COMMON]),
     (["check"], "--", ["--keep-going", *COMMON]),
     (["dump"], "--", ["--text", "--json", "--keep-going", *COMMON]),
     (["run"], "--", RUN),
-    (["import"], "--", ["--batch", "--sync", *SIZES, *COMMON]),
+    (["import"], "--", ["--batch", "--sync", "--create", *SIZES, *COMMON]),
     (["compact"], "--", ["--level", *SIZES, *COMMON]),
     (["run"], "--b", ["--block-bytes", "--base-bytes"]),
     (["import"], "--b", ["--batch", "--block-bytes", "--base-bytes"]),

@@ -11,7 +11,7 @@ from browsing import REVERSE, WORDS, filled, in_order
 from files import Manifest, log_file, new_folder, write_directory
 from folders import OPTIONS
 from listed import Wrong, check
-from running import SECONDS, ldbtool, lines, under_test, want, want_answers, want_printed, want_ran, want_report
+from running import SECONDS, ldbtool, lines, under_test, want, want_answers, want_printed, want_ran, want_refused, want_report, want_refused
 from streams import at_hand, failing_behind, want_next
 
 BAD = "refused 20 BadLine"
@@ -127,13 +127,14 @@ def copies(room):
     want_pairs(new, *[f"{key} {WORDS[key]}" for key in in_order()])
 
 
-@check("an export that is cut by a refusal isn't taken for whole by an import")
+@check("an export that is refused says so by its status, and in a pipe the shell's pipefail hands that on")
 def cut_copy(room):
     log = log_file([(1, [("61", "31")])])
     damaged = write_directory(room, "damaged", Manifest(log=2, next_file=3), {"000002.log": b"\x00" + log[1:] + log})
-    exported = ldbtool("export", damaged)
-    want(exported.returncode, 1, "the export's status")
-    want_printed(["import", new_folder(room)], 1, BAD, "taken 0", script=exported.stdout)
+    want_refused(["export", damaged], "5 Corrupt")
+    piped = 'set -o pipefail; "$0" export "$1" | "$0" import "$2"'
+    ran = subprocess.run(["bash", "-c", piped, under_test(), damaged, new_folder(room)], capture_output=True, timeout=SECONDS)
+    want((ran.returncode, ran.stdout, b"refused 5 Corrupt" in ran.stderr), (1, b"taken 0\n", True), "a copy through a pipe")
 
 
 @check("on a disk that is full an import tells how many are kept, and at most one batch beyond them counts")
@@ -263,8 +264,8 @@ def work_auto(room):
 # ---- a terminal
 
 
-HINT = b"ldbtool: begin with `open` or `open new`; keys and values are hexadecimal, Ctrl-D ends; `ldbtool help run` tells the lines\r\n"
-IMPORT_HINT = b"ldbtool: lines are `put K V` and `del K`; keys and values are hexadecimal, Ctrl-D ends\r\n"
+HINT = b"ldbtool: begin with `open` or `open new`; keys and values are hexadecimal; Ctrl-D ends; `ldbtool help run` lists the commands\r\n"
+IMPORT_HINT = b"ldbtool: lines are `put K V` and `del K`; keys and values are hexadecimal; Ctrl-D ends\r\n"
 
 
 def at_terminal(words, typed, **how):
@@ -307,4 +308,7 @@ def hint(room):
     want_ran(ldbtool("import", folder, script=b"del 62\n"), 0, b"taken 1\n", "an import in a pipe")
     for words in (["check", folder], ["scan", folder], ["compact", folder]):
         seen, status = at_terminal(words, b"\x04")
-        want((status, seen.count(b"ldbtool:")), (0, 0), f"{words[0]} at a terminal: {seen}")
+        # (a check ends with its sums)
+        want((status, seen.count(b"ldbtool:")), (0, int(words[0] == "check")), f"{words[0]} at a terminal: {seen}")
+    empty = new_folder(room, "empty")
+    want(at_terminal(["check", empty], b"\x04")[0].count(b"tables with"), 0, "sums of an empty folder")

@@ -50,7 +50,8 @@ def lines(*texts):
 
 # why there was a refusal: of a script's line, of a folder, of a file in it; and its source
 REASON = re.compile(
-    rb"ldbtool: (line \d+: |.*: (refused \d|(table|log) \d|each file is sound|`ldbtool check --keep-going|can't be listed|a name in it)"
+    rb"ldbtool: (line \d+: |.*: (refused \d|(table|log) \d|each file is sound|`ldbtool check --keep-going|can't be listed|a name in it"
+    rb"|the newest MANIFEST here|the MANIFEST is damaged|in a copy of the folder|no MANIFEST is here|the MANIFEST says|\d+ of \d+ tables have|have the program that wrote it)"
     rb"|.*/(CURRENT|LOCK|MANIFEST-\d+|\d+\.(log|ldb|sst|dbtmp)): )"
 )
 
@@ -93,6 +94,15 @@ def want_entries(folder, *wanted, status=0, options=()):
 def want_printed(words, status, *printed, script=b""):
     """Runs a command that must print these lines, and say nothing."""
     want_ran(ldbtool(*words, script=script), status, lines(*printed), " ".join(words))
+
+
+def want_refused(words, refusal, *printed, script=b""):
+    """Runs a command that is refused so: it prints these lines and no more, and standard error
+    alone says the refusal."""
+    ran = ldbtool(*words, script=script)
+    said = ran.stderr.splitlines(keepends=True)
+    want((ran.returncode, ran.stdout), (1, lines(*printed)), " ".join(words))
+    want((f": refused {refusal}: ".encode() in b"".join(said[:1]), [it for it in said if not REASON.match(it)]), (True, []), f"what {words[0]} says: {said}")
 
 
 def want_fault(ran, status, what):

@@ -70,15 +70,15 @@ WORKED = [
      "ok; ok; worked; worked; ok; worked; worked; value 31; value 32; value 31", ["table 0 4 61 1 put 31", "table 0 6 62 2 put 32"]),
 ]  # fmt: skip
 
-VERBS = ("get", "scan", "export", "stats", "check", "dump", "run", "import", "compact")
+VERBS = ("get", "scan", "export", "stats", "check", "dump", "run", "import", "compact", "put", "del")
 
 # command lines that are wrong
 MISUSES = [
-    [], ["frob", "DIR"], *[[it] for it in VERBS], *[[it, "A", "B"] for it in VERBS if it != "get"], *[[it, "--frob", "DIR"] for it in VERBS],
-    ["get", "DIR"], ["get", "DIR", "61", "62"], ["get", "61", "--text"], ["get", "--json", "DIR", "61"], ["get", "--values", "DIR", "61"], ["get", "--limit", "1", "DIR", "61"],
+    [], ["frob", "DIR"], *[[it] for it in VERBS], *[[it, "A", "B"] for it in VERBS if it not in ("get", "del")], *[[it, "--frob", "DIR"] for it in VERBS],
+    ["get", "DIR"], ["get", "--raw", "DIR", "61", "62"], ["get", "61", "--text"], ["put", "DIR"], ["put", "DIR", "61"], ["put", "DIR", "61", "31", "x"], ["del", "DIR"], ["del", "DIR", "61", "62"], ["put", "--sync", "DIR", "61", "31"], ["get", "--json", "DIR", "61"], ["get", "--values", "DIR", "61"], ["get", "--limit", "1", "DIR", "61"],
     ["scan", "--limit", "DIR"], ["scan", "--limit", "-1", "DIR"], ["scan", "--limit", "18446744073709551616", "DIR"], ["scan", "--limit", "x", "DIR"], ["scan", "--limit", "", "DIR"],
     ["scan", "--limit", "1", "--limit", "2", "DIR"], ["scan", "--from", "DIR"], ["scan", "--from", "61", "--from", "62", "DIR"], ["scan", "--reverse=yes", "DIR"],
-    ["scan", "--values", "--values", "DIR"], ["export", "--values", "DIR"], ["export", "--from", "61", "DIR"], ["export", "--text", "DIR"],
+    ["scan", "--values", "--values", "DIR"], ["export", "--values", "DIR"], ["export", "--limit", "1", "DIR"], ["export", "--reverse", "DIR"], ["export", "--text", "DIR"], ["scan", "--count=1", "DIR"],
     ["dump", "--values", "DIR"], ["dump", "--json", "--json", "DIR"], ["dump", "--text=no", "DIR"], ["check", "--json", "DIR"],
     ["dump", "--cache-blocks", "1", "DIR"], ["dump", "--write-buffer", "1", "DIR"], ["get", "--cache-blocks", "1", "DIR", "61"], ["scan", "--cache-blocks", "1", "DIR"],
     ["run", "--cache-blocks", "DIR"], ["--cache-blocks", "1", "run", "DIR"], ["help", "frob"],
@@ -101,9 +101,14 @@ TOLD_MISUSES = [
     *[(["dump", *words, "DIR"], "--text or --json is wanted, not both") for words in (["--text", "--json"], ["--json", "--order", "reverse", "--text"])],
     (["scan", "--order", "reverse", "--prefix", "61", "DIR"], "--prefix: --order bytes is wanted"),
     (["scan", "--order", "reverse", "--prefix", "-", "DIR"], "--prefix: --order bytes is wanted"),
-    *[(["get", "DIR", it], "KEY: a key in hexadecimal is wanted") for it in ("", "6", "6x", "616", "key", "6 1", " 61", "0x61")],
-    *[(["scan", f"--{name}", it, "DIR"], f"--{name}: a key in hexadecimal is wanted") for name in ("from", "to", "prefix") for it in ("", "6", "6x", "0x61")],
-    (["scan", "--json", "--from", "key", "DIR"], "--from: a key in hexadecimal is wanted"),
+    *[(["get", "DIR", it], "KEY: bytes in hexadecimal are wanted") for it in ("", "6", "6x", "616", "key", "6 1", " 61", "0x61")],
+    *[(["scan", f"--{name}", it, "DIR"], f"--{name}: bytes in hexadecimal are wanted") for name in ("from", "to", "prefix") for it in ("", "6", "6x", "0x61")],
+    (["scan", "--json", "--from", "key", "DIR"], "--from: bytes in hexadecimal are wanted"),
+    (["get", "DIR", "61", "x"], "KEY: bytes in hexadecimal are wanted"), (["put", "DIR", "61", "3"], "VALUE: bytes in hexadecimal are wanted"), (["del", "DIR", "x"], "KEY: bytes in hexadecimal are wanted"),
+    *[(["get", "--text", "DIR", it], "KEY: text is wanted") for it in ("\\", "\\x", "\\x6", "\\x6g", "a\\", "\\n", "\\X61", "\\\\\\")],
+    (["put", "--text", "DIR", "a", "\\q"], "VALUE: text is wanted"), (["scan", "--text", "--prefix", "\\", "DIR"], "--prefix: text is wanted"),
+    (["get", "--raw", "DIR", "61", "62"], "--raw: one KEY is wanted"), (["get", "--raw", "DIR", "-"], "--raw: one KEY is wanted"),
+    (["export", "--order", "reverse", "--prefix", "61", "DIR"], "--prefix: --order bytes is wanted"),
 ]  # fmt: skip
 
 # the options of `run`: the name, the default and the greatest number of each
@@ -117,7 +122,7 @@ OTHER_OPTIONS = [("import", "batch", 1_000, 65_536)]
 
 # words that ask for help, and what it has
 TOLD = [
-    ("help get", "76616c7565"), ("get -h", "Usage"), ("scan --help", "--prefix <K>"), ("export --help", "put 6b6579 76616c7565"), ("import --help", "taken N"), ("compact --help", "--level <L>"),
+    ("help get", "76616c7565"), ("help put", "--text"), ("del --help", "Deletes one key"), ("get -h", "Usage"), ("scan --help", "--prefix <K>"), ("export --help", "put 6b6579 76616c7565"), ("import --help", "taken N"), ("compact --help", "--level <L>"),
     ("--help", "Exit status"), ("help run", "refused 20 BadLine"), ("run --help", "value 76616c7565"), ("check -h", "Usage"),
     ("dump --help", "table LEVEL NUMBER KEY SEQUENCE put VALUE"), ("dump --help", '"kind":"delete"}'), ("--version", "ldbtool 0.1.0"),
 ]  # fmt: skip

@@ -17,7 +17,7 @@ from scripts import MISUSES, OPTIONS, OTHER_OPTIONS, TOLD, TOLD_MISUSES, VERBS
 
 def words_of(verb, folder):
     """Returns a verb with what it can't be without."""
-    return [verb, folder, "61"] if verb == "get" else [verb, folder]
+    return [verb, folder, *{"get": ["61"], "put": ["61", "31"], "del": ["61"]}.get(verb, [])]
 
 
 @check("a folder that is missing, or none, is said on standard error, with status 1")
@@ -28,7 +28,8 @@ def wrong_folders(room):
         for verb in VERBS:
             ran = ldbtool(*words_of(verb, folder), script=b"open new\n")
             want_fault(ran, 1, f"{verb} over {folder!r}")
-            want(ran.stderr[:9], b"ldbtool: ", f"what {verb} over {folder!r} says")
+            said = "it isn't a folder" if "file" in folder else "there is no such folder"
+            want(ran.stderr.decode(), f"ldbtool: {folder}: {said}\n", f"what {verb} over {folder!r} says")
 
 
 @check("folders of any name that is UTF-8, and a clear refusal of others")

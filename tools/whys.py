@@ -1,6 +1,9 @@
-"""Checks of tools/program: where a refusal comes from, as standard error says it. A row for each kind of damage that docs/FORMATS.md names, with
-the file, the place in it, what is found there and what is wanted, worked out here by hand; and some calls of the system that fail."""
+"""Checks of tools/program: where a refusal comes from, as standard error says it, and what helps.
+
+A row for each kind of damage that docs/FORMATS.md names, with the file, the place in it, what is
+found there and what is wanted, worked out here by hand; and some calls of the system that fail."""
 import os
+import re
 import resource
 import struct
 import subprocess
@@ -94,7 +97,8 @@ FULL = b"\x01"
 TAB = b"\x09"
 WRONG = b"\x01\x02\x03\x04"
 
-# what is damaged; the files; which file is named, and what is said of it; and whether a check alone sees it, or sees it so
+# what is damaged; the files; which file is named, and what is said of it; and whether a check alone
+# sees it, or sees it so
 LOGS = [
     ("a checksum", logged(GOOD + fragment(1, b"abc", WRONG)), "000002.log", f"fragment at 24: {sums(masked(FULL + b'abc'), WRONG)}"),
     ("a type", logged(GOOD + fragment(9, b"abc")), "000002.log", "fragment at 24: there is no such type of a fragment: 9 found, 4 at most wanted"),
@@ -170,7 +174,7 @@ CHECKED = [
 
 
 def where(ran, folder):
-    """The lines that say where a refusal comes from."""
+    """The lines that say where a refusal comes from, without those that say what helps."""
     return [it.removeprefix(f"ldbtool: {folder}/") for it in ran.stderr.decode().splitlines() if it.startswith(f"ldbtool: {folder}/")]
 
 
@@ -180,12 +184,13 @@ def asked(words, folder):
 
 
 def want_where(room, rows, commands):
-    """Each of these commands that is refused says of each row where that comes from; of the first one it is wanted that it is refused."""
+    """Wants each of these commands that is refused to say of each row where that comes from. The
+    first command has to be refused."""
     for number, (what, files, name, words) in enumerate(rows):
         for command in commands:
             folder = write_directory(room, f"{number} {command[0]}", None, files)
             ran = asked(command, folder)
-            is_refused = b"refused 5" in ran.stdout or b"refused 6" in ran.stdout
+            is_refused = any(it in ran.stdout + ran.stderr for it in (b"refused 5", b"refused 6"))
             want(is_refused or command != commands[0], True, f"{command[0]} over {what} is refused")
             found = set(where(ran, folder))
             want(found, {f"{name}: {words}"} if is_refused else set(), f"{command[0]} over {what}")
@@ -276,7 +281,16 @@ def system_errors(room):
     locked = new_folder(room, "locked")
     os.symlink("LOCK", f"{locked}/LOCK")
     ran = run(locked, ["open new"])
-    want((ran.stdout, where(ran, locked)), (lines("refused 2 Io"), ["LOCK: is a symbolic link, and nothing is written through one"]), "a LOCK that is a link")
+    want((ran.stdout, where(ran, locked)), (lines("refused 2 Io"), ["LOCK: is a symbolic link, and nothing is written through one"]), "a LOCK that leads nowhere")
+    linked, beside = new_folder(room, "linked"), new_folder(room, "beside")
+    with open(f"{linked}/other", "wb"):
+        pass
+    os.link(f"{linked}/other", f"{linked}/LOCK")
+    os.mkdir(f"{beside}/LOCK-wal")
+    words = "LOCK: must be a plain file, no link and with no second name, and no folder or link may be named LOCK-wal"
+    for folder in (linked, beside):
+        ran = run(folder, ["open new"])
+        want((ran.stdout, where(ran, folder)), (lines("refused 2 Io"), ["LOCK: can't be locked", words]), "a LOCK of two names, or a folder beside it")
 
     full = new_folder(room, "full")
     ran = run(full, ["open new", f"put 61 {'31' * 5000}", "get 61"], preexec_fn=failing_behind(2000))
@@ -294,3 +308,50 @@ def system_errors(room):
     ran = subprocess.run([under_test(), "check", few], capture_output=True, timeout=SECONDS, preexec_fn=limited(resource.RLIMIT_NOFILE, 4))
     said = ran.stderr.decode().splitlines()
     want((ran.stdout, f"ldbtool: {few}: can't be listed: Too many open files (os error 24)" in said), (lines("refused 2 Io"), True), f"no descriptor for a listing: {said}")
+
+
+# the name of the reverse order
+REVERSED = "ldbtool.ReverseBytewiseComparator"
+
+# the files of a directory, the options, and the lines that say what helps
+HELPS = [
+    ({"CURRENT": b"rubbish", "MANIFEST-000004": b"", "MANIFEST-000011": b""}, [], ["the newest MANIFEST here is MANIFEST-000011", "in a copy of the folder, `echo MANIFEST-000011 > CURRENT` names it; then check that"]),
+    ({"CURRENT": b"MANIFEST-000009\n", "MANIFEST-000004": b""}, [], ["the newest MANIFEST here is MANIFEST-000004", "in a copy of the folder, `echo MANIFEST-000004 > CURRENT` names it; then check that"]),
+    ({"CURRENT": b"MANIFEST-000009\n"}, [], ["no MANIFEST is here: take a backup, or let LevelDB's RepairDB work on a copy"]),
+    ({"000003.log": b"", "MANIFEST-000002": b""}, [], ["the newest MANIFEST here is MANIFEST-000002", "in a copy of the folder, `echo MANIFEST-000002 > CURRENT` names it; then check that"]),
+    ({**edited(), "MANIFEST-000001": edited()["MANIFEST-000001"][:-1] + b"\x09"}, [], ["the MANIFEST is damaged: take a backup, or let LevelDB's RepairDB work on a copy"]),
+    (edited(comparator="mine\x1b"), [], ["the MANIFEST says `mine\\x1b`: an order of another program's own, by which that program alone can read it"]),
+    (edited(comparator=REVERSED), [], [f"the MANIFEST says `{REVERSED}`: add `--order reverse`"]),
+    (edited(), ["--order", "reverse"], ["the MANIFEST says `leveldb.BytewiseComparator`: leave `--order` out"]),
+    (tables({5: DATA + b"\x01" + masked(DATA + b"\x01") + ONE_TABLE[26:], 6: DATA + b"\x02" + masked(DATA + b"\x02") + ONE_TABLE[26:], 7: ONE_TABLE}, level=0), [],
+     ["2 of 3 tables have compressed blocks, by (Snappy|Zstd)", "have the program that wrote it copy all pairs into a new database without compression"]),
+]  # fmt: skip
+
+
+@check("what helps after a refusal is said, and `check --keep-going` is advised where it says more")
+def helps(room):
+    advice = "`ldbtool check --keep-going"
+    for number, (files, options, wanted) in enumerate(HELPS):
+        for command in COMMANDS:
+            folder = write_directory(room, f"{number} {command[0]}", None, files)
+            ran = asked([*command, *options], folder)
+            said = [it.removeprefix(f"ldbtool: {folder}: ") for it in ran.stderr.decode().splitlines() if it.startswith(f"ldbtool: {folder}: ")]
+            found = [it for it in said if not it.startswith(("refused ", "table ", "log ", "each file"))]
+            # (a get may find its key before a compressed block, and stats reads no block)
+            is_met = b"refused" in ran.stdout + ran.stderr
+            want(is_met or command[0] not in ("check", "dump", "scan"), True, f"{command[0]} over row {number} is refused")
+            matched = [bool(re.fullmatch(re.escape(it).replace(r"\(Snappy\|Zstd\)", "(Snappy|Zstd)"), one)) for it, one in zip(wanted, found)]
+            want((len(found), all(matched)), (len(wanted) if is_met else 0, True), f"{command[0]} over row {number}: {found}")
+    damaged = write_directory(room, "damaged", None, one(CHANGED))
+    for command in COMMANDS:
+        ran = asked(command, damaged)
+        is_advised = command[0] in ("get", "scan", "export", "run", "compact")
+        want(advice in ran.stderr.decode(), is_advised, f"{command[0]} of a damaged table: {ran.stderr}")
+
+
+@check("a line that ends with a carriage return is told so")
+def carriage_returns(room):
+    ran = ldbtool("run", new_folder(room), script=b"open new\r\nput 61 31\r\nget\r\n")
+    want(ran.stdout, lines(*["refused 20 BadLine"] * 3), "the answers")
+    words = "the line ends with a carriage return: a newline alone is wanted"
+    want(ran.stderr.decode().splitlines(), [f"ldbtool: line 1: word 2: {words}", f"ldbtool: line 2: word 3: {words}", f"ldbtool: line 3: word 1: {words}"], "what is said")

@@ -1,4 +1,3 @@
-mod Texts
 mod PutLines
 mod Bounds
 mod Lists
@@ -7,3 +6,4 @@ mod Steps
 mod Consistent
 mod Printed
 mod Scanned
+mod Values

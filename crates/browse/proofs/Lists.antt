@@ -143,7 +143,8 @@ module _ (cmp : Cmp) (total : IsTotalOrder cmp) where
         at true first rest = (first, rest)
         at false first rest = tt
 
-    -- the pairs of the range backwards: of those in front of its end, from the last one down to its start
+    -- the pairs of the range backwards: of those in front of its end, from the last one down to its
+    -- start
     turned_is : (pairs : List Pair) → IsStrictlySortedBy cmp (keys_of pairs) → Pairs (reverse (kept pairs)) (down_to cmp keys.from (reverse (up_to cmp keys.to pairs)))
     unfolding IsStrictlySortedBy down_to
     turned_is [] sorted = reversed_none ∙ sym (ap (down_to cmp keys.from) reversed_none)
@@ -205,7 +206,8 @@ module _ (cmp : Cmp) (choice : Choice) where
 
 -- ---- places
 
--- no pair is ahead, and the place is none; or the place is that of the first one ahead, and the others are behind it
+-- no pair is ahead, and the place is none; or the place is that of the first one ahead, and the
+-- others are behind it
 abbrev pub Splits : Bool → List Pair → Option ℕ → List Pair → Type 0
 Splits backwards pairs place ahead = ((place ≡ None) × (ahead ≡ []))
     ⊎ ((pair : Pair) × (i : ℕ) × (place ≡ Some i) × (i < length pairs) × (slice_get pairs i ≡ Some pair) × (ahead ≡ pair ∷ behind backwards i pairs))

@@ -21,7 +21,7 @@ use Rattle.reader.specs.Readers.{ShowsMap, facts_of, scan_of, whole_of}
 use Rattle.reader.specs.Moving.{BeginsWalk}
 use Rattle.browse.specs.declared.choice.Choice.{Choice}
 use Rattle.browse.specs.declared.style.Style.{Style}
-use Rattle.browse.specs.Browsing.{IsTold, end_status, end_text}
+use Rattle.browse.specs.Browsing.{IsTold, end_status}
 use Rattle.browse.specs.Choices.{at_most}
 use Rattle.browse.specs.Forms.{line_in, lines_in}
 use Rattle.browse.specs.internal.Lists.{behind, reach, settled, starting, all_of, in_reach}
@@ -222,14 +222,14 @@ prints_none order facts choice old before text = record {
 }
 
 pub tells_map : {S K : Type 0} (order : Order) (facts : S → Facts) (choice : Choice) (old new : Reader S K) (before between after : Option (List ℕ)) (text rest : List ℕ) (answer : Result (Unit {0}) DbError) (status : ℕ)
-    → text ≡ [] → PrintsMap order choice facts old new before between text rest answer → Appends between after (rest ++ end_text answer) → status ≡ end_status answer → TellsMap order choice facts old new before after status
+    → text ≡ [] → PrintsMap order choice facts old new before between text rest answer → Appends between after rest → status ≡ end_status answer → TellsMap order choice facts old new before after status
 tells_map order facts choice old new before between after text rest answer status empty p written is = record {
   came = p.came;
   answer = answer;
   told = p.told;
   refused = p.refused;
-  written = subst (Appends before after) (sym (append_assoc p.shown.0 rest (end_text answer)) ∙ ap (λ (t : List ℕ). t ++ end_text answer) (sym p.shown.1 ∙ ap (λ (t : List ℕ). t ++ lines_in choice.style p.came) empty))
-      (appends_then before between after p.shown.0 (rest ++ end_text answer) p.shown.2 written);
+  written = subst (Appends before after) (sym p.shown.1 ∙ ap (λ (t : List ℕ). t ++ lines_in choice.style p.came) empty)
+      (appends_then before between after p.shown.0 rest p.shown.2 written);
   ended = is;
 }
 

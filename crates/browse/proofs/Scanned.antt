@@ -1,5 +1,5 @@
 -- What a scan tells, by what its reader shows.
-use Rattle.std.proofs.Common.{◌≡◌, ◌++◌, ℕ, IsTrue, List, [], Option, Result, Ok, Err, inl, refl}
+use Rattle.std.proofs.Common.{◌≡◌, ℕ, IsTrue, List, [], Option, Result, Ok, Err, inl, refl, subst, sym}
 use Rattle.std.specs.Prelude.{IfErr, IfOk, OnOk}
 use Rattle.std.specs.Cmp.{IsTotalOrder}
 use Rattle.std.specs.FinMap.{get}
@@ -15,7 +15,8 @@ use Rattle.reader.specs.declared.reader.Reader.{Reader}
 use Rattle.reader.specs.Readers.{RefusesGet, ShowsMap, facts_of}
 use Rattle.reader.specs.Refusals.{RefusesReader}
 use Rattle.browse.specs.declared.choice.Choice.{Choice}
-use Rattle.browse.specs.Browsing.{IsRead, IsThere, Scans, end_status, end_text}
+use Rattle.script.proofs.Written.{appends_none}
+use Rattle.browse.specs.Browsing.{IsRead, IsThere, Scans, end_status}
 use Rattle.browse.specs.Refusals.{RefusesScan}
 use Rattle.browse.specs.internal.Printing.{PrintsMap, TellsMap}
 use Rattle.browse.specs.internal.Walking.{RefusesMove}
@@ -56,7 +57,11 @@ module _ {S K : Type 0} (order : Order) (total : IsTotalOrder order.cmp) (facts 
 pub not_read : (order : Order) (e : DbError) (old new : Facts) (key : List ℕ) → RefusesReader order e old new → IsErrorCounted e old new → IsRead order old new key (Err e)
 not_read order e old new key h counted = record { found = tt; there = tt; refused = open_refused order e old new h counted }
 
-pub scans_none : (order : Order) (e : DbError) (old new : Facts) (choice : Choice) (before after : Option (List ℕ)) (status : ℕ) → RefusesReader order e old new → IsErrorCounted e old new → Appends before after (end_text (Err e)) → status ≡ end_status (Err e)
+-- nothing was written
+none_written : (before after : Option (List ℕ)) → after ≡ before → Appends before after []
+none_written before after same = subst (λ w. Appends before w []) (sym same) (appends_none before)
+
+pub scans_none : (order : Order) (e : DbError) (old new : Facts) (choice : Choice) (before after : Option (List ℕ)) (status : ℕ) → RefusesReader order e old new → IsErrorCounted e old new → after ≡ before → status ≡ 1
     → Scans order old new choice before after status
 scans_none order e old new choice before after status h counted written is = record {
   came = [];
@@ -64,18 +69,13 @@ scans_none order e old new choice before after status h counted written is = rec
   told = λ f m means. inl refl;
   there = tt;
   refused = scan_refused order e old new (open_refused order e old new h counted);
-  written = written;
+  written = none_written before after written;
   ended = is;
 }
 
 -- ---- results
 
 pub tells_so : {S K E : Type 0} (r : Result ℕ E) (order : Order) (facts : S → Facts) (choice : Choice) (old new : Reader S K) (before between after : Option (List ℕ)) (text rest : List ℕ) (answer : Result (Unit {0}) DbError)
-    → text ≡ [] → PrintsMap order choice facts old new before between text rest answer → OnOk r (Appends between after (rest ++ end_text answer)) → IfOk r (λ status. status ≡ end_status answer) → IfOk r (TellsMap order choice facts old new before after)
+    → text ≡ [] → PrintsMap order choice facts old new before between text rest answer → OnOk r (Appends between after rest) → IfOk r (λ status. status ≡ end_status answer) → IfOk r (TellsMap order choice facts old new before after)
 tells_so (Ok status) order facts choice old new before between after text rest answer empty p written is = tells_map order facts choice old new before between after text rest answer status empty p written is
 tells_so (Err e) order facts choice old new before between after text rest answer empty p written is = tt
-
-pub refused_so : {E : Type 0} (r : Result ℕ E) (order : Order) (e : DbError) (old new : Facts) (choice : Choice) (before after : Option (List ℕ)) → RefusesReader order e old new → IsErrorCounted e old new → OnOk r (Appends before after (end_text (Err e)))
-    → IfOk r (λ status. status ≡ end_status (Err e)) → IfOk r (Scans order old new choice before after)
-refused_so (Ok status) order e old new choice before after h counted written is = scans_none order e old new choice before after status h counted written is
-refused_so (Err x) order e old new choice before after h counted written is = tt

@@ -123,7 +123,8 @@ module _ {S K : Type 0} {g : _} (cmp : Cmp) (facts : S → Facts) (old new : Rea
 
 -- ---- the last pair in front of a key
 
--- the walk stands on the first pair that doesn't come before it, and what is ahead is in front of that
+-- the walk stands on the first pair that doesn't come before it, and what is ahead is in front of
+-- that
 abbrev StandsOn : Walk → List Pair → Type 0
 StandsOn at ahead = (i : ℕ) × (at.place ≡ Some i) × (i ≤ length at.pairs) × (ahead ≡ reverse (take i at.pairs))
 

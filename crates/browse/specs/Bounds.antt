@@ -10,7 +10,8 @@ abbrev pub given : Option (Bor (List ℕ)) → Option (List ℕ)
 given None = None
 given (Some bytes) = Some bytes.now
 
--- in the order of bytes the key doesn't come before the one, comes before the other, and begins so: each where it is given
+-- in the order of bytes the key doesn't come before the one, comes before the other, and begins so:
+-- each where it is given
 abbrev pub IsAskedFor : Option (List ℕ) → Option (List ℕ) → Option (List ℕ) → List ℕ → Type 0
 IsAskedFor from to prefix key =
     IsTrue (is_from (slice_cmp nat_cmp) from key) × IsTrue (is_before_end (slice_cmp nat_cmp) to key) × IfSome prefix (λ begins. BeginsWith begins key)

@@ -1,6 +1,7 @@
 -- How byte strings and pairs are printed.
-use Rattle.std.specs.Prelude.{ℕ, ◌++◌, ◌&&◌, nat_le, if◌then◌else◌, List, [], ◌∷◌, codes}
+use Rattle.std.specs.Prelude.{ℕ, ◌++◌, List, [], ◌∷◌, codes}
 use Rattle.script.specs.Words.{text_of_bytes}
+use Rattle.texts.specs.Texts.{escaped}
 use Rattle.engine.specs.Ranges.{Pair}
 use Rattle.browse.specs.declared.form.Form.{Form}
 use Rattle.browse.specs.declared.form.Form.TheVariants.{Hex, Text}
@@ -8,14 +9,6 @@ use Rattle.browse.specs.declared.style.Style.{Style}
 use Rattle.browse.specs.declared.style.Style.TheVariants.{Keys, Pairs, JsonKeys, JsonPairs, Puts}
 
 -- ---- byte strings
-
--- a byte from ' ' to '~' as it is, and any other as \x with its two hexadecimal digits (LevelDB's util/logging.cc, EscapeString)
-abbrev pub escaped_byte : ℕ → List ℕ
-escaped_byte byte = if nat_le 32 byte && nat_le byte 126 then byte ∷ [] else 92 ∷ 120 ∷ text_of_bytes (byte ∷ [])
-
-abbrev pub escaped : List ℕ → List ℕ
-escaped [] = []
-escaped (byte ∷ bytes) = escaped_byte byte ++ escaped bytes
 
 -- two hexadecimal digits a byte, `-` for none; or as text
 abbrev pub text_in : Form → List ℕ → List ℕ

@@ -15,8 +15,9 @@ use Rattle.engine.specs.Ranges.{Cmp}
 abbrev pub IsDamaged : Order → Files → Type 0
 IsDamaged order files = (IsEmpty files → ⊥) × IsInconsistent order files
 
--- Why the value of a key isn't told: out of memory, while the store didn't fail; since it failed; since there is no database; since the
--- directory is damaged; or since it passes a limit of reading.
+-- Why the value of a key isn't told: out of memory, while the store didn't fail; since it failed;
+-- since there is no database; since the directory is damaged; or since it passes a limit of
+-- reading.
 abbrev pub RefusesGet : Order → DbError → Facts → Facts → Type 0
 RefusesGet order error.OutOfMemory old new = new.failures ≡ old.failures
 RefusesGet order error.Io old new = old.failures < new.failures
@@ -29,8 +30,8 @@ RefusesGet order _ old new = ⊥
 abbrev pub HasLongTable : Cmp → Files → Type 0
 HasLongTable cmp files = (number : ℕ) × (file : List ℕ) × (table_at files number ≡ Some file) × IsTablePastLimit cmp file
 
--- Why no further pair is told: the same, where of a consistent directory such a table is enough; or since a walk has lost its place, in a
--- directory that is damaged.
+-- Why no further pair is told: the same, where of a consistent directory such a table is enough; or
+-- since a walk has lost its place, in a directory that is damaged.
 abbrev pub RefusesScan : Order → DbError → Facts → Facts → Type 0
 RefusesScan order error.NoPlace old new = IsTrue new.faithful → IsDamaged order old.files
 RefusesScan order (error.Unsupported what) old new =

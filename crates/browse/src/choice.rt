@@ -21,7 +21,7 @@ pub struct Choice {
 impl Choice {
     ghost use Rattle.std.specs.Prelude.{false};
 
-    /// All pairs, as the lines of a script that puts them into an empty database.
+    /// Returns all pairs, as the lines of a script that puts them into an empty database.
     pub fn of_all_puts() -> Self
         ensures keys { (result.keys.from ≡ None) × (result.keys.to ≡ None) }
         ensures most { result.most ≡ None }

@@ -1,52 +1,33 @@
 //! How byte strings are printed.
 
 ghost use Rattle.std.specs.Prelude.{◌≡◌, ◌++◌, OnOk};
-ghost use Rattle.browse.specs.Forms.{digits_of, escaped, escaped_byte, text_in};
+ghost use Rattle.browse.specs.Forms.{digits_of, text_in};
 
 use script::push_bytes;
 use std::alloc::AllocError;
+use texts::push_text;
 
 /// How a byte string is printed.
 #[derive(Clone, Copy, Debug, PartialEq, Eq)]
 pub enum Form {
-    /// In lower-case hexadecimal, `-` where there are no bytes.
+    /// In lower-case hexadecimal; `-` if there are no bytes.
     Hex,
-    /// As text, in which each byte outside of ' ' to '~' is `\x` with two digits. A backslash stays, so that a text may stand for two byte
-    /// strings (LevelDB's util/logging.cc, `EscapeString`).
+    /// As text, which `texts::read_text` reads back.
     Text,
 }
 
-/// Puts bytes behind the text. Where there is no memory for all of it, a beginning may be left.
+/// Appends bytes to a text in this form. `Err` if memory ran out; a beginning may be left then.
 pub fn push_in_form(text: &mut Vec<u8>, bytes: &[u8], form: Form) -> Result<(), AllocError>
     ensures { OnOk result (text.new.items ≡ text.old.items ++ text_in form bytes.now) }
 {
     match form {
         Form::Hex => push_bytes(text, bytes),
-        Form::Text => push_escaped(text, bytes),
+        Form::Text => push_text(text, bytes),
     }
 }
 
-fn push_escaped(text: &mut Vec<u8>, bytes: &[u8]) -> Result<(), AllocError>
-    ensures { OnOk result (text.new.items ≡ text.old.items ++ escaped bytes.now) }
-{
-    for byte in bytes {
-        push_escaped_byte(text, *byte)?;
-    }
-    Ok(())
-}
-
-fn push_escaped_byte(text: &mut Vec<u8>, byte: u8) -> Result<(), AllocError>
-    ensures { OnOk result (text.new.items ≡ text.old.items ++ escaped_byte byte) }
-{
-    if 32 <= byte && byte <= 126 {
-        text.push(byte)?;
-        return Ok(());
-    }
-    text.extend_from_slice(b"\\x")?;
-    push_bytes(text, &[byte])
-}
-
-/// Puts the hexadecimal digits of bytes behind the text: nothing where there are none.
+/// Appends the hexadecimal digits of bytes to a text: nothing if there are no bytes.
+/// `Err` if memory ran out; a beginning may be left then.
 pub fn push_digits(text: &mut Vec<u8>, bytes: &[u8]) -> Result<(), AllocError>
     ensures { OnOk result (text.new.items ≡ text.old.items ++ digits_of bytes.now) }
 {

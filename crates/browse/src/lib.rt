@@ -1,5 +1,5 @@
-//! What the pairs of a directory look like as text: the value of a key, and the pairs of a range, of which nothing is changed; begin at
-//! scanning.rt.
+//! The pairs of a directory as text: the values of keys, and the pairs of a range. Nothing is
+//! changed. Begin at scanning.rt.
 #![tactic(auto)]
 
 mod choice;
@@ -11,13 +11,15 @@ mod line;
 mod printing;
 mod refusal;
 mod scanning;
+mod showing;
 mod style;
 mod walking;
 
 pub use choice::Choice;
 pub use form::{Form, push_digits, push_in_form};
-pub use getting::get;
+pub use getting::{get, get_each};
 pub use limits::range_of;
 pub use line::puts_are_read;
 pub use scanning::scan;
+pub use showing::Showing;
 pub use style::Style;

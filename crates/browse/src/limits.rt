@@ -12,7 +12,8 @@ use ikey::{Bytewise, KeyOrder};
 use std::alloc::{AllocError, Global};
 use std::cmp::Ordering;
 
-/// The keys from one on that come before another, of those that begin so: each only where it is given. In the order of bytes.
+/// Returns the range of the keys from one on, before another, of those that begin so: each only if
+/// it is given, in the order of bytes. `Err` if memory ran out.
 pub fn range_of(
     alloc: Global,
     from: Option<&[u8]>,
@@ -31,7 +32,7 @@ pub fn range_of(
     Ok(KeyRange { from, to })
 }
 
-// The keys that begin so; all, where nothing is given.
+// The keys that begin so; all, if nothing is given.
 fn keys_beginning(alloc: Global, prefix: Option<&[u8]>) -> Result<KeyRange, AllocError>
     ensures { IfOk result (λ keys. (key : List ℕ) → All (λ byte. byte < 256) key →
         IsTrue (is_in_range (slice_cmp nat_cmp) keys key) ↔ IfSome (given prefix.entry) (λ begins. BeginsWith begins key)) }

@@ -15,7 +15,8 @@ pub fn puts_are_read()
     ensures { PutLaw }
 {}
 
-/// Puts the line of a pair behind the text, without a newline. Where there is no memory for the whole line, a beginning of it may be left.
+/// Appends the line of a pair to a text, without a newline. `Err` if memory ran out; a beginning of
+/// the line may be left then.
 pub fn push_line(
     text: &mut Vec<u8>,
     style: Style,

@@ -23,8 +23,9 @@ use store::Store;
 // How many bytes of lines wait at most, so that they are written together.
 const OUTPUT_BYTES: usize = 65_536;
 
-/// Prints the pairs that are asked for of a reader's map, and answers why there are no more where it was refused. What isn't written yet
-/// is left in `text`.
+/// Prints the pairs that are asked for of a reader's map, and returns why there are no more, if
+/// that was refused. What isn't written yet is left in `text`. `Fault` if a line couldn't be
+/// written.
 pub fn print_map<K: KeyOrder, S: Store, W: Write>(
     alloc: Global,
     reader: &mut Reader<S, K>,
@@ -74,7 +75,8 @@ fn limit_of(most: Option<u64>) -> u64
     most.unwrap_or(u64::MAX)
 }
 
-// What ends a walk of which as many pairs came as may: without a limit a fault, since no directory has so many.
+// What ends a walk of which as many pairs came as may: without a limit a fault, since no directory
+// has so many.
 fn end_at_limit(most: Option<u64>) -> Result<Result<(), DbError>, Fault>
     ensures { IfOk result (λ answer. IsSome most × (answer ≡ Ok tt)) }
 {
@@ -84,7 +86,7 @@ fn end_at_limit(most: Option<u64>) -> Result<Result<(), DbError>, Fault>
     }
 }
 
-// Puts the line of a pair behind the text that waits, and writes that where it is long.
+// Appends the line of a pair to the text that waits, and writes that if it is long.
 fn print_pair<W: Write>(
     writer: &mut W,
     text: &mut Vec<u8>,

@@ -1,4 +1,4 @@
-//! Walks through a range, in the order of the keys or backwards.
+//! Iteration over a range, in the order of the keys or backwards.
 
 ghost use Rattle.std.specs.Prelude.{◌≡◌, true, false, Some};
 ghost use Rattle.engine.specs.Ranges.{is_before_end, is_from};
@@ -13,7 +13,8 @@ use std::alloc::Global;
 use std::cmp::Ordering;
 use store::Store;
 
-/// The next pair of a walk, which has begun or not; nothing where all came. A refused walk may stand anywhere.
+/// Returns the next pair of an iteration, which has begun or not, or `None` if all came. After a
+/// refusal the iteration may stand anywhere.
 pub fn next_pair<K: KeyOrder, S: Store>(
     alloc: Global,
     reader: &mut Reader<S, K>,
@@ -29,7 +30,7 @@ pub fn next_pair<K: KeyOrder, S: Store>(
     }
 }
 
-// The pair to which a walk came, where that isn't past the range.
+// The pair to which a walk came, if that isn't past the range.
 fn settle<K: KeyOrder>(choice: &Choice, found: Option<(Bytes, Bytes)>) -> Option<(Bytes, Bytes)>
     ensures { result ≡ settled K.cmp choice.now found }
 {
@@ -102,7 +103,7 @@ fn start_forwards<K: KeyOrder, S: Store>(
     }
 }
 
-// To the last pair in front of the range's end.
+// To the last pair before the range's end.
 fn start_backwards<K: KeyOrder, S: Store>(
     alloc: Global,
     reader: &mut Reader<S, K>,
@@ -117,7 +118,7 @@ fn start_backwards<K: KeyOrder, S: Store>(
     }
 }
 
-// To the one in front of the first pair that doesn't come before this key, or to the last of all.
+// To the one before the first pair that doesn't come before this key, or to the last of all.
 fn start_in_front<K: KeyOrder, S: Store>(
     alloc: Global,
     reader: &mut Reader<S, K>,

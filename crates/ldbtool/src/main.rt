@@ -1,6 +1,6 @@
-//! The command line of the database: `get`, `scan` and `export` print what it has, `check` says whether a directory is good,
-//! and `dump` prints its entries; `run` answers a script of commands, `import` writes lines, and `compact` merges tables.
-//! `ldbtool help VERB` has the rest.
+//! The command line of the database: `get`, `scan` and `export` print what it has, `check` says
+//! whether a directory is good, and `dump` prints its entries; `run` answers a script of commands,
+//! `import` writes lines, and `compact` merges tables. `ldbtool help VERB` has the rest.
 #![tactic(auto)]
 
 mod version;

@@ -1,6 +1,6 @@
 // What `get` and `scan` print of a directory in memory.
 use batch::Batch;
-use browse::{Choice, Form, Style, get, puts_are_read, range_of, scan};
+use browse::{Choice, Form, Showing, Style, get, get_each, puts_are_read, range_of, scan};
 use coding::DbError;
 use engine::{Db, Ids, KeyRange, Mode, Options};
 use ikey::{Bytewise, KeyOrder, ReverseBytes};
@@ -12,7 +12,8 @@ use store::{MemStore, Store, StoreError};
 
 type Looked = ReadOnly<MemStore>;
 
-// What is written, one batch after the other, so that some of it comes into tables: b is written twice, and d is deleted again.
+// What is written, one batch after the other, so that some of it comes into tables: b is written
+// twice, and d is deleted again.
 const PUTS: &[(&[u8], &[u8])] = &[
     (b"b", b"no"),
     (b"", b"0"),
@@ -60,7 +61,8 @@ pub fn written<K: KeyOrder>(alloc: Global) -> Result<MemStore, DbError> {
     }
 }
 
-// The first key of a range and the one behind it, what its keys begin with, how many may come, whether they come backwards, and the text.
+// The first key of a range and the first key after it, what its keys begin with, how many may come,
+// whether they come backwards, and the text.
 struct Case<'a> {
     from: Option<&'a [u8]>,
     to: Option<&'a [u8]>,
@@ -82,7 +84,7 @@ const CASES: [Case<'static>; 21] = [
     Case { from: None, to: None, prefix: None, most: Some(0), backwards: false, style: KEYS, text: "" },
     Case { from: None, to: None, prefix: None, most: Some(9), backwards: false, style: Style::JsonKeys, text: "{\"key\":\"\"}\n{\"key\":\"61\"}\n{\"key\":\"62\"}\n{\"key\":\"6261\"}\n{\"key\":\"ff\"}\n" },
     Case { from: Some(b"b"), to: Some(b"c"), prefix: None, most: None, backwards: false, style: Style::JsonPairs, text: "{\"key\":\"62\",\"value\":\"5c207e7f0a\"}\n{\"key\":\"6261\",\"value\":\"\"}\n" },
-    Case { from: Some(b"b"), to: Some(b"c"), prefix: None, most: None, backwards: true, style: Style::Pairs(Form::Text), text: "ba \nb \\ ~\\x7f\\x0a\n" },
+    Case { from: Some(b"b"), to: Some(b"c"), prefix: None, most: None, backwards: true, style: Style::Pairs(Form::Text), text: "ba \nb \\\\ ~\\x7f\\x0a\n" },
     Case { from: Some(b"b"), to: Some(b"ba"), prefix: None, most: None, backwards: true, style: KEYS, text: "62\n" },
     Case { from: Some(b"aa"), to: None, prefix: None, most: Some(1), backwards: false, style: KEYS, text: "62\n" },
     Case { from: None, to: Some(b"aa"), prefix: None, most: Some(1), backwards: true, style: KEYS, text: "61\n" },
@@ -172,22 +174,26 @@ fn a_scan_goes_by_the_order_of_the_database(rt: HostRuntime) -> Result<(), Fail>
 }
 
 // A key, how its value is printed, the text and the status.
-const VALUES: [(&[u8], Form, &str, u8); 8] = [
-    (b"a", Form::Hex, "31\n", 0),
-    (b"a", Form::Text, "1\n", 0),
-    (b"", Form::Hex, "30\n", 0),
-    (b"b", Form::Text, "\\ ~\\x7f\\x0a\n", 0),
-    (b"ba", Form::Hex, "-\n", 0),
-    (b"ba", Form::Text, "\n", 0),
-    (b"d", Form::Hex, "", 4),
-    (b"c", Form::Text, "", 4),
+const VALUES: [(&[u8], Showing, &str, u8); 12] = [
+    (b"a", Showing::Line(Form::Hex), "31\n", 0),
+    (b"a", Showing::Line(Form::Text), "1\n", 0),
+    (b"", Showing::Line(Form::Hex), "30\n", 0),
+    (b"b", Showing::Line(Form::Text), "\\\\ ~\\x7f\\x0a\n", 0),
+    (b"ba", Showing::Line(Form::Hex), "-\n", 0),
+    (b"ba", Showing::Line(Form::Text), "\n", 0),
+    (b"d", Showing::Line(Form::Hex), "", 4),
+    (b"c", Showing::Line(Form::Text), "", 4),
+    (b"b", Showing::Bytes, "\\ ~\x7f\n", 0),
+    (b"c", Showing::Bytes, "", 4),
+    (b"a", Showing::EachLine(Form::Text), "1\n", 0),
+    (b"c", Showing::EachLine(Form::Text), "\\N\n", 4),
 ];
 
 fn gets(
     alloc: Global,
     store: Looked,
     key: &[u8],
-    form: Form,
+    showing: Showing,
     wanted: (&str, u8),
 ) -> (bool, Looked) {
     let mut printed = Vec::new(alloc);
@@ -195,7 +201,7 @@ fn gets(
         alloc,
         store,
         key,
-        form,
+        showing,
         &mut printed,
         &mut Nobody,
     );
@@ -207,8 +213,8 @@ fn gets(
 fn first_wrong_value(alloc: Global) -> Result<Option<usize>, DbError> {
     let mut store = ReadOnly::over(written::<Bytewise>(alloc)?);
     let mut wrong = None;
-    for (index, (key, form, text, status)) in VALUES.iter().enumerate() {
-        let (same, back) = gets(alloc, store, key, *form, (*text, *status));
+    for (index, (key, showing, text, status)) in VALUES.iter().enumerate() {
+        let (same, back) = gets(alloc, store, key, *showing, (*text, *status));
         store = back;
         if !same {
             wrong = wrong.or(Some(index));
@@ -223,7 +229,62 @@ fn a_value_is_printed_in_its_form(rt: HostRuntime) -> Result<(), Fail> {
     Ok(())
 }
 
-// Changes the first byte of each table: its length stays, so that it is found when the table is read.
+// Some keys, the lines of their values, and the status.
+const LISTED: [(&[&[u8]], &str, u8); 4] = [
+    (&[], "", 0),
+    (&[b"a", b"", b"b"], "1\n0\n\\\\ ~\\x7f\\x0a\n", 0),
+    (&[b"c", b"ba", b"a"], "\\N\n\n1\n", 4),
+    (&[b"a", b"a"], "1\n1\n", 0),
+];
+
+fn keys_of(alloc: Global, keys: &[&[u8]]) -> Result<Vec<Bytes>, AllocError> {
+    let mut owned = Vec::new(alloc);
+    for key in keys {
+        owned.push(Bytes::copied_from(alloc, key)?)?;
+    }
+    Ok(owned)
+}
+
+// Whether the keys have these lines, or of a directory that is refused none.
+fn are_listed(
+    alloc: Global,
+    store: MemStore,
+    keys: &[&[u8]],
+    text: &str,
+    status: u8,
+) -> Result<bool, DbError> {
+    let keys = keys_of(alloc, keys)?;
+    let mut printed = Vec::new(alloc);
+    let (found, _) = get_each::<Bytewise, MemStore, Vec<u8>, Nobody>(
+        alloc,
+        ReadOnly::over(store),
+        &keys,
+        Form::Text,
+        &mut printed,
+        &mut Nobody,
+    );
+    Ok(matches!(found, Ok(code) if code == status) && printed.as_slice() == text.as_bytes())
+}
+
+fn first_wrong_list(alloc: Global) -> Result<Option<usize>, DbError> {
+    for (index, (keys, text, status)) in LISTED.iter().enumerate() {
+        let store = written::<Bytewise>(alloc)?;
+        if !are_listed(alloc, store, keys, text, *status)? {
+            return Ok(Some(index));
+        }
+    }
+    let refused = are_listed(alloc, damaged(alloc)?, &[b"c", b"a", b"a"], "\\N\n", 1)?;
+    Ok(if refused { None } else { Some(9) })
+}
+
+#[test]
+fn keys_have_a_line_each(rt: HostRuntime) -> Result<(), Fail> {
+    assert_eq!(rt; first_wrong_list(rt.alloc())?, None);
+    Ok(())
+}
+
+// Changes the first byte of each table: its length stays, so that it is found when the table is
+// read.
 fn damage(alloc: Global, store: &mut MemStore) -> Result<(), StoreError> {
     for name in store.list(alloc)? {
         if !name.ends_with(".ldb") {
@@ -247,10 +308,10 @@ fn damaged(alloc: Global) -> Result<MemStore, DbError> {
     }
 }
 
-// What is printed of a directory that is refused, and whether the status says so.
-fn refusals(alloc: Global, store: MemStore, text: &str) -> (bool, bool) {
+// Whether nothing is printed of a directory that is refused, and the status says so.
+fn refusals(alloc: Global, store: MemStore) -> (bool, bool) {
     let store = ReadOnly::over(store);
-    let (first, store) = gets(alloc, store, b"a", Form::Hex, (text, 1));
+    let (first, store) = gets(alloc, store, b"a", Showing::Line(Form::Hex), ("", 1));
     let mut printed = Vec::new(alloc);
     let all = Choice::of_all_puts();
     let (status, _) = scan::<Bytewise, MemStore, Vec<u8>, Nobody>(
@@ -260,18 +321,18 @@ fn refusals(alloc: Global, store: MemStore, text: &str) -> (bool, bool) {
         &mut printed,
         &mut Nobody,
     );
-    let second = matches!(status, Ok(1)) && printed.as_slice() == text.as_bytes();
+    let second = matches!(status, Ok(1)) && printed.is_empty();
     (first, second)
 }
 
 fn refused(alloc: Global) -> Result<(bool, bool), DbError> {
-    let empty = refusals(alloc, MemStore::new(alloc), "refused 3 NoDatabase\n");
-    let torn = refusals(alloc, damaged(alloc)?, "refused 5 Corrupt\n");
+    let empty = refusals(alloc, MemStore::new(alloc));
+    let torn = refusals(alloc, damaged(alloc)?);
     Ok((empty.0 && empty.1, torn.0 && torn.1))
 }
 
 #[test]
-fn a_refusal_has_its_line_and_its_status(rt: HostRuntime) -> Result<(), Fail> {
+fn a_refusal_has_its_status_and_no_line(rt: HostRuntime) -> Result<(), Fail> {
     assert_eq!(rt; refused(rt.alloc())?, (true, true));
     Ok(())
 }

@@ -1,5 +1,5 @@
-//! Tests of the program and of what it is made of: scripts as text, what is read without changing anything, and what it answers to
-//! words.
+//! Tests of the program and of what it is made of: scripts as text, what is read without changing
+//! anything, and what it answers to words.
 #![tactic(auto)]
 
 #[cfg(test)]

@@ -14,7 +14,7 @@ struct Outcome {
     status: u8,
 }
 
-// The words of a command line, where `DIR` stands for the folder.
+// The words of a command line, in which `DIR` stands for the folder.
 fn words_of(alloc: Global, words: &[&str], folder: &str) -> Result<Vec<String>, AllocError> {
     let mut owned = vec![in alloc; String::from_str(alloc, "ldbtool")?]?;
     for word in words {
@@ -58,9 +58,9 @@ const SCRIPT: &str =
 const ANSWERS: &str =
     "ok\nok\nvalue -\nrefused 20 BadLine\nrefused 20 BadLine\nrefused 20 BadLine\nok\n";
 
-// What is asked of one folder, one after the other: the words, a script, the status, what is written, and whether something is said on the
-// side.
-const STEPS: [(&[&str], &str, u8, &str, bool); 41] = [
+// What is asked of one folder, one after the other: the words, a script, the status, what is
+// written, and whether something is said on the side.
+const STEPS: [(&[&str], &str, u8, &str, bool); 52] = [
     (&[], "", 2, "", true),
     (&["frob", "DIR"], "", 2, "", true),
     (&["run", "--block-bytes", "0", "DIR"], "", 2, "", true),
@@ -96,7 +96,9 @@ const STEPS: [(&[&str], &str, u8, &str, bool); 41] = [
         true,
     ),
     (&["check", "DIR"], "", 0, "empty\n", true),
-    (&["get", "DIR", "61"], "", 1, "refused 3 NoDatabase\n", true),
+    (&["get", "DIR", "61"], "", 1, "", true),
+    (&["stats", "DIR"], "", 1, "", true),
+    (&["del", "DIR", "61"], "", 1, "", true),
     (&["compact", "DIR"], "", 1, "refused 3 NoDatabase\n", true),
     (&["run", "DIR"], SCRIPT, 0, ANSWERS, true),
     (
@@ -165,6 +167,11 @@ const STEPS: [(&[&str], &str, u8, &str, bool); 41] = [
     (&["get", "DIR", "61"], "", 0, "31\n", false),
     (&["get", "--text", "DIR", "a"], "", 0, "1\n", false),
     (&["get", "DIR", "6a"], "", 4, "", false),
+    (&["get", "DIR", "61", "6a"], "", 4, "31\n\\N\n", false),
+    (&["get", "DIR", "-"], "6a\n61\n", 4, "\\N\n31\n", false),
+    (&["get", "--raw", "DIR", "61"], "", 0, "1", false),
+    (&["get", "--raw", "DIR", "61", "6a"], "", 2, "", true),
+    (&["scan", "--count", "DIR"], "", 0, "1\n", false),
     (&["scan", "--values", "DIR"], "", 0, "61 31\n", false),
     (&["export", "DIR"], "", 0, "put 61 31\n", false),
     (
@@ -196,6 +203,10 @@ const STEPS: [(&[&str], &str, u8, &str, bool); 41] = [
         false,
     ),
     (&["compact", "DIR"], "", 0, "ok\n", false),
+    (&["put", "--text", "DIR", "\\x00", "\\\\"], "", 0, "", false),
+    (&["get", "DIR", "00"], "", 0, "5c\n", false),
+    (&["put", "--text", "DIR", "\\", "v"], "", 2, "", true),
+    (&["del", "DIR", "00"], "", 0, "", false),
     (
         &["run", "--strict", "DIR"],
         "open\nx\nget 63\n",

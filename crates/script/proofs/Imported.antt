@@ -293,7 +293,7 @@ line_waits order facts how old now script left next waiting still count line h t
 pub line_long : (line : List ℕ) (waiting still : List Operation) (most : ℕ) → TakesOperation line waiting still true → length waiting < most → length still ≤ most
 line_long line waiting still most (operation, says, is) room = let e : length still ≡ length (waiting ++ operation ∷ []) = ap length is in omega (arith, e, length-append waiting (operation ∷ []), room)
 
--- what the lines behind the open lead to
+-- what the lines after the open lead to
 abbrev pub Carries : {S K : Type 0} {g : _} → Order → (S → Facts) → ImportValues → Session S K g → Session S K g → Option (List ℕ) → Option (List ℕ) → ℕ → List Operation → ℕ → Type 0
 Carries {S} {K} {g} order facts how first now start left before waiting count =
     (old : Session S K g) (script : Option (List ℕ)) → HasBegun order facts how old first script start [] before → HasBegun order facts how old now script left waiting count
@@ -304,7 +304,7 @@ pub stops_still : {S K : Type 0} {g : _} (order : Order) (facts : S → Facts) (
 stops_still {S} {K} {g} order facts how old now new script left waiting count h same =
     subst (λ (s : Session S K g). TakesSome order facts how old s script) (sym same) (stops order facts how old now script left waiting count h)
 
--- ---- behind the close
+-- ---- after the close
 
 pub import_stops : {S K : Type 0} {g : _} (order : Order) (facts : S → Facts) (how : ImportValues) (old new : Session S K g) (script contents : Option (List ℕ))
     → TakesClosed order facts how old new script → StopsImport order facts how old new script contents contents

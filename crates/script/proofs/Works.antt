@@ -131,7 +131,7 @@ compaction_works order facts level old now next new opened compacted ended first
       goes_then order facts old next new (Open Existing ∷ compaction_of level ∷ []) works.0 (Done ∷ Done ∷ []) works.1 done works.3,
     )
 
--- ---- behind the close
+-- ---- after the close
 
 pub runs_compaction : {S K : Type 0} {g : _} (order : Order) (facts : S → Facts) (level : Option ℕ) (old between new : Session S K g) (ended closing : Answer)
     → CompactsTo order facts level old between ended → Applied order facts Close between new closing → RunsCompaction order facts level old new ended

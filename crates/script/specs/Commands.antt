@@ -12,8 +12,8 @@ use Rattle.engine.specs.Follows.{Follows}
 use Rattle.engine.specs.Outcomes.{AreAnswersTo}
 use Rattle.engine.specs.Applied.{AllApplied}
 
--- The session went on by these commands, and these are the answers: while the store is faithful by a run of the machine, and
--- over any store by what is said of each command.
+-- The session went on by these commands, and these are the answers: while the store is faithful by
+-- a run of the machine, and over any store by what is said of each command.
 pub record GoesOn {S K : Type 0} {g : _} (order : Order) (facts : S → Facts) (old new : Session S K g) (commands : List Op) (answers : List Answer) : Type 0 where
   pub ran : Follows order facts old new (λ m n. Run order m commands answers n)
   pub allowed : AreAnswersTo commands answers
@@ -28,7 +28,8 @@ IsRefusal _ = ⊥
 abbrev pub AreWell : List Answer → Type 0
 AreWell answers = All (λ answer. IsRefusal answer → ⊥) answers
 
--- Of these planned commands all were given, and none was refused; or the first ones, of which the last one was.
+-- Of these planned commands all were given, and none was refused; or the first ones, of which the
+-- last one was.
 abbrev pub AreGiven : List Op → List Op → List Answer → Answer → Type 0
 AreGiven plan commands answers ended =
     ((ended ≡ Done) × (commands ≡ plan) × AreWell answers)

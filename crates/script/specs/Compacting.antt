@@ -19,7 +19,8 @@ abbrev pub compaction_of : Option ℕ → Op
 compaction_of (Some level) = CompactLevel level
 compaction_of None = CompactAll
 
--- Pieces of work, up to the answer that there is none, or up to a refusal. (Worked: there may be more.)
+-- Pieces of work, up to the answer that there is none, or up to a refusal. (Worked: there may be
+-- more.)
 abbrev pub AreWorks : List Op → List Answer → Answer → Type 0
 AreWorks commands answers Done = (pieces : ℕ) × (commands ≡ replicate (suc pieces) (Work 4096)) × (answers ≡ replicate pieces Worked ++ Idle ∷ [])
 AreWorks commands answers Worked = (pieces : ℕ) × (commands ≡ replicate pieces (Work 4096)) × (answers ≡ replicate pieces Worked)

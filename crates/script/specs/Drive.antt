@@ -36,15 +36,16 @@ commands_of [] = []
 commands_of (None ∷ said) = commands_of said
 commands_of (Some command ∷ said) = command ∷ commands_of said
 
--- One line for each line of the script: the answer's, or that of BadLine where the line says no command.
+-- One line for each line of the script: the answer's, or that of BadLine where the line says no
+-- command.
 abbrev pub text_of : List (Option Op) → List Answer → List ℕ
 text_of [] answers = []
 text_of (None ∷ said) answers = line_of (Refused BadLine) ++ 10 ∷ text_of said answers
 text_of (Some command ∷ said) (answer ∷ answers) = line_of answer ++ 10 ∷ text_of said answers
 text_of (Some command ∷ said) [] = []
 
--- The session went on by the commands that these lines say, and these are the answers: while the store is faithful by a
--- run of the machine, and over any store by what is said of each command.
+-- The session went on by the commands that these lines say, and these are the answers: while the
+-- store is faithful by a run of the machine, and over any store by what is said of each command.
 pub record Answered {S K : Type 0} {g : _} (order : Order) (facts : S → Facts) (old new : Session S K g) (lines : List (List ℕ)) (said : List (Option Op)) (answers : List Answer) : Type 0 where
   pub says : AreSaid lines said
   pub ran : Follows order facts old new (λ m n. Run order m (commands_of said) answers n)
@@ -82,7 +83,8 @@ pub record Finished {S K : Type 0} {g : _} (how : Ended) (order : Order) (facts 
   pub closing : Answer
   pub closed : Applied order facts Close between new closing
 
--- Some first lines of the script were answered, and a beginning of the text of their answers was written.
+-- Some first lines of the script were answered, and a beginning of the text of their answers was
+-- written.
 pub record Stopped {S K : Type 0} {g : _} (order : Order) (facts : S → Facts) (old new : Session S K g) (script before after : Option (List ℕ)) : Type 0 where
   pub lines : List (List ℕ)
   pub said : List (Option Op)

@@ -18,7 +18,8 @@ use Rattle.script.specs.Script.{IsOperation, refusal_of}
 use Rattle.script.specs.Commands.{GoesOn, AreGiven, AreWell, IsRefusal, status_of}
 use Rattle.script.specs.Drive.{lines_of, AppendsFront, LeavesLines}
 
--- how many operations a batch has at most, and whether the device is to keep each before the next one
+-- how many operations a batch has at most, and whether the device is to keep each before the next
+-- one
 pub record ImportValues : Type 0 where
   pub batch : ℕ
   pub sync : Bool
@@ -38,8 +39,9 @@ SayOperations (line ∷ lines) [] = ⊥
 
 -- ---- commands
 
--- Batches of at most so many operations, all synced or none. Behind each one six entries of work for each of its operations, and one more: it
--- writes the table of a memory table that the work has sealed, before the next batch comes.
+-- Batches of at most so many operations, all synced or none. Behind each one six entries of work
+-- for each of its operations, and one more: it writes the table of a memory table that the work has
+-- sealed, before the next batch comes.
 abbrev pub AreBatches : ℕ → Bool → List Op → Type 0
 AreBatches most sync [] = Unit {0}
 AreBatches most sync (Write operations synced ∷ Work entries ∷ Work last ∷ commands) =
@@ -51,7 +53,8 @@ abbrev pub written_by : Op → List Operation
 written_by (Write operations sync) = operations.items
 written_by _ = []
 
--- An open and batches; behind all lines one more, which is synced, and which has operations wherever a line had one.
+-- An open and batches; behind all lines one more, which is synced, and which has operations
+-- wherever a line had one.
 abbrev pub IsPlan : ImportValues → Bool → List Op → Type 0
 IsPlan how false plan = (batches : List Op) × (plan ≡ Open Any ∷ batches) × AreBatches how.batch how.sync batches
 IsPlan how true plan =
@@ -102,7 +105,8 @@ abbrev pub HasBadNext : Option (List ℕ) → List (List ℕ) → Type 0
 HasBadNext script lines = IfSome script (λ bytes. (line : List ℕ) × (later : List (List ℕ))
     × (lines_of bytes ≡ lines ++ line ∷ later) × ((operation : Operation) → SaysOperation line operation → ⊥))
 
--- It came to an end: all lines were taken, a command was refused, or a line says no operation. So many operations were taken.
+-- It came to an end: all lines were taken, a command was refused, or a line says no operation. So
+-- many operations were taken.
 pub record EndsImport {S K : Type 0} {g : _} (order : Order) (facts : S → Facts) (how : ImportValues) (old new : Session S K g) (script : Option (List ℕ)) (outcome : Answer) (count : ℕ) : Type 0 where
   pub all : Bool
   pub ended : Answer
@@ -146,7 +150,8 @@ pub record StopsImport {S K : Type 0} {g : _} (order : Order) (facts : S → Fac
 
 -- ---- parts
 
--- The database was opened, batches of the first lines' operations were taken, and their last operations wait.
+-- The database was opened, batches of the first lines' operations were taken, and their last
+-- operations wait.
 pub record HasTaken {S K : Type 0} {g : _} (order : Order) (facts : S → Facts) (how : ImportValues) (old now : Session S K g) (script left : Option (List ℕ)) (waiting : List Operation) (count : ℕ) : Type 0 where
   pub lines : List (List ℕ)
   pub leaves : LeavesLines script left lines
@@ -200,7 +205,8 @@ TakesOperation line waiting still false = (operation : Operation) → SaysOperat
 abbrev pub TakesSome : {S K : Type 0} {g : _} → Order → (S → Facts) → ImportValues → Session S K g → Session S K g → Option (List ℕ) → Type 0
 TakesSome order facts how old new script = (all : Bool) × (ended : Answer) × Takes order facts how old new script all ended
 
--- The lines that are left are imported behind those that were taken before; to an end, or not to one.
+-- The lines that are left are imported behind those that were taken before; to an end, or not to
+-- one.
 abbrev pub EndsRest : {S K : Type 0} {g : _} → Order → (S → Facts) → ImportValues → Session S K g → Session S K g → Option (List ℕ) → ℕ → ℕ → Answer → Type 0
 EndsRest {S} {K} {g} order facts how now new left before after outcome =
     (old : Session S K g) (script : Option (List ℕ)) → HasBegun order facts how old now script left [] before → EndsImport order facts how old new script outcome after

@@ -18,7 +18,7 @@ use Rattle.script.specs.Words.{words_of, IsNumber, IsByteString, text_of_bytes}
 
 -- ---- batches
 
--- the command that writes these operations, and has the device keep them where `sync` is true
+-- the command that writes these operations, and syncs them if `sync` is true
 abbrev pub IsWrite : List Operation → Bool → Op → Type 0
 IsWrite operations sync (op.Write written synced) = (written.items ≡ operations) × (synced ≡ sync)
 IsWrite operations sync _ = ⊥

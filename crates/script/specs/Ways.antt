@@ -1,4 +1,5 @@
--- What a script does that is run in a way: strict, so that a refusal ends it, or with work behind its writes.
+-- What a script does that is run in a way: strict, so that a refusal ends it, or with work behind
+-- its writes.
 use Rattle.std.specs.Prelude.{◌≡◌, ◌⊎◌, ◌*◌, ◌++◌, ℕ, min, Bool, true, List, [], ◌∷◌, length, Option, Some, None, IfSome, MatchBool}
 use Rattle.std.specs.Io.KnownBytes.{Appends}
 use Rattle.coding.specs.declared.error.DbError.TheVariants.{BadLine}
@@ -19,14 +20,15 @@ use Rattle.script.specs.declared.way.Ended.TheVariants.{Whole, Refused as EndedE
 
 -- ---- work behind writes
 
--- The work that a command brings along which was answered so, where work is wanted: behind a write that was done six entries for each
--- of its operations, of which 1,048,576 count at most, and behind anything else none.
+-- The work that a command brings along which was answered so, where work is wanted: after a write
+-- that was done six entries for each of its operations, of which 1,048,576 count at most, and
+-- behind anything else none.
 abbrev pub brought_by : Bool → Op → Answer → List Op
 brought_by true (Write operations sync) Done = Work (6 * min (length operations.items) 1048576) ∷ []
 brought_by works command answer = []
 
--- What was given to the session, and what it told, where lines say these commands and were answered so: each command, and behind it what it
--- brings along, of which the lines tell no answer.
+-- What was given to the session, and what it told, where lines say these commands and were answered
+-- so: each command, and behind it what it brings along, of which the lines tell no answer.
 abbrev pub WithWork : Bool → List Op → List Answer → List Op → List Answer → Type 0
 WithWork works [] [] given told = (given ≡ []) × (told ≡ [])
 WithWork works (command ∷ commands) (answer ∷ answers) given told =
@@ -38,7 +40,8 @@ WithWork works (command ∷ commands) (answer ∷ answers) given told =
 WithWork works [] (answer ∷ answers) given told = ⊥
 WithWork works (command ∷ commands) [] given told = ⊥
 
--- The session went on by the commands that these lines say, and by what they bring along in this way; these are the lines' answers.
+-- The session went on by the commands that these lines say, and by what they bring along in this
+-- way; these are the lines' answers.
 pub record AnsweredIn {S K : Type 0} {g : _} (way : Way) (order : Order) (facts : S → Facts) (old new : Session S K g) (lines : List (List ℕ)) (said : List (Option Op)) (answers : List Answer) : Type 0 where
   pub says : AreSaid lines said
   pub allowed : AreAnswersTo (commands_of said) answers
@@ -93,8 +96,8 @@ pub record FinishedIn {S K : Type 0} {g : _} (way : Way) (how : Ended) (order : 
   pub closing : Answer
   pub closed : Applied order facts Close between new closing
 
--- Some first lines were answered, and a beginning of the text of their answers was written. In a strict script none was answered behind
--- a refusal.
+-- Some first lines were answered, and a beginning of the text of their answers was written. In a
+-- strict script none was answered behind a refusal.
 pub record StoppedIn {S K : Type 0} {g : _} (way : Way) (order : Order) (facts : S → Facts) (old new : Session S K g) (script before after : Option (List ℕ)) : Type 0 where
   pub lines : List (List ℕ)
   pub said : List (Option Op)

@@ -12,7 +12,8 @@ use coding::{Bytes, DbError};
 use engine::Answer;
 use std::alloc::{AllocError, Global};
 
-/// The line of an answer, without a newline. Byte strings are in lower-case hexadecimal, `-` where there are no bytes.
+/// Returns the line of an answer, without a newline. Byte strings are in lower-case hexadecimal,
+/// `-` if there are no bytes. `Err` if memory ran out.
 pub fn answer_line(alloc: Global, answer: &Answer) -> Result<String, AllocError>
     ensures { IfOk result (λ line. string_bytes line ≡ line_of answer.now) }
 {
@@ -25,8 +26,8 @@ pub fn answer_line(alloc: Global, answer: &Answer) -> Result<String, AllocError>
     }
 }
 
-/// Puts the same behind the text, the digits of byte strings straight into it, since a long script has many. Where there is no
-/// memory for the whole line, a beginning of it may be left.
+/// Appends the line of an answer to a text, without a newline. `Err` if memory ran out; a beginning
+/// of the line may be left then. Digits are written where they stay, since a long script has many.
 pub fn push_line(alloc: Global, text: &mut Vec<u8>, answer: &Answer) -> Result<(), AllocError>
     ensures ok { OnOk result (text.new.items ≡ text.old.items ++ line_of answer.now) }
     ensures ascii { IsAscii (line_of answer.now) }
@@ -56,7 +57,7 @@ fn push_refusal(alloc: Global, text: &mut Vec<u8>, error: &DbError) -> Result<()
     text.extend_from_slice(line.as_bytes())
 }
 
-/// Puts a word and a number behind the text. Where there is no memory, the text stays.
+/// Appends a word, a space and a number to a text. `Err` if memory ran out; the text stays then.
 pub fn push_with_number(
     alloc: Global,
     text: &mut Vec<u8>,
@@ -78,7 +79,7 @@ fn push_pair(text: &mut Vec<u8>, key: &Bytes, value: &Bytes) -> Result<(), Alloc
     push_with_bytes(text, b" ", value)
 }
 
-// A word, and bytes behind it.
+// Appends a word, and bytes.
 fn push_with_bytes(text: &mut Vec<u8>, word: &[u8], bytes: &Bytes) -> Result<(), AllocError>
     ensures ok { OnOk result (text.new.items ≡ text.old.items ++ (word.now ++ text_of_bytes bytes.now)) }
     ensures err { OnErr result (StartsWith text.new.items text.old.items) }
@@ -87,8 +88,8 @@ fn push_with_bytes(text: &mut Vec<u8>, word: &[u8], bytes: &Bytes) -> Result<(),
     push_bytes(text, bytes.as_slice())
 }
 
-/// Puts bytes behind the text as answers write them: in lower-case hexadecimal, `-` where there are none. Where there is no memory
-/// for all of it, a beginning may be left.
+/// Appends bytes to a text as answers write them: in lower-case hexadecimal, `-` if there are none.
+/// `Err` if memory ran out; a beginning may be left then.
 pub fn push_bytes(text: &mut Vec<u8>, bytes: &[u8]) -> Result<(), AllocError>
     ensures ok { OnOk result (text.new.items ≡ text.old.items ++ text_of_bytes bytes.now) }
     ensures err { OnErr result (StartsWith text.new.items text.old.items) }
@@ -99,7 +100,7 @@ pub fn push_bytes(text: &mut Vec<u8>, bytes: &[u8]) -> Result<(), AllocError>
     push_digits(text, bytes)
 }
 
-// Two digits for each byte, written where they stay.
+// Appends two digits for each byte.
 fn push_digits(text: &mut Vec<u8>, bytes: &[u8]) -> Result<(), AllocError>
     ensures ok { OnOk result (text.new.items ≡ text.old.items ++ encode_lower bytes.now) }
     ensures err { OnErr result (text.new.items ≡ text.old.items) }
@@ -113,7 +114,8 @@ fn push_digits(text: &mut Vec<u8>, bytes: &[u8]) -> Result<(), AllocError>
     Ok(())
 }
 
-/// Bytes as answers and reports write them: in lower-case hexadecimal, `-` where there are none.
+/// Returns bytes as answers write them: in lower-case hexadecimal, `-` if there are none. `Err` if
+/// memory ran out.
 pub fn bytes_text(alloc: Global, bytes: &Bytes) -> Result<String, AllocError>
     ensures { IfOk result (λ text. string_bytes text ≡ text_of_bytes bytes.now) }
 {

@@ -1,4 +1,4 @@
-//! What stands behind the first word of most lines: ids, numbers, keys.
+//! What stands after the first word of most lines: ids, numbers, keys.
 
 ghost use Rattle.std.specs.Prelude.{◌≡◌, [], ◌∷◌, IfOk};
 ghost use Rattle.machine.specs.declared.command.Mode.{Mode as ModeValue};
@@ -11,7 +11,7 @@ use crate::word::{read_bytes, read_number, read_small_number};
 use engine::{Mode, Op};
 use std::alloc::{AllocError, Global};
 
-/// The mode of an open.
+/// Returns the mode of an open, or `None` if the words are none.
 pub fn read_mode(words: &[&[u8]]) -> Option<Mode>
     ensures { Reads (λ (mode : ModeValue). texts_of words.now ≡ mode_words mode) result }
 {
@@ -32,7 +32,7 @@ fn read_mode_word(word: &[u8]) -> Option<Mode>
     }
 }
 
-/// The number that is the only word.
+/// Returns the number that is the only word, or `None` if the words aren't one.
 pub fn read_number_alone(words: &[&[u8]]) -> Option<u64>
     ensures { Reads (IsNumberAlone 64 (texts_of words.now)) result }
 {
@@ -42,7 +42,7 @@ pub fn read_number_alone(words: &[&[u8]]) -> Option<u64>
     }
 }
 
-/// The same of a number below 2^32.
+/// Returns the number below 2^32 that is the only word, or `None` if the words aren't one.
 pub fn read_small_number_alone(words: &[&[u8]]) -> Option<u32>
     ensures { Reads (IsNumberAlone 32 (texts_of words.now)) result }
 {
@@ -52,7 +52,7 @@ pub fn read_small_number_alone(words: &[&[u8]]) -> Option<u32>
     }
 }
 
-/// The id of a snapshot, `Some(None)` where there is no word.
+/// Returns the id of a snapshot, `Some(None)` if there is no word, or `None` if the words are none.
 pub fn read_snapshot(words: &[&[u8]]) -> Option<Option<u64>>
     ensures { Reads (AreSnapshot (texts_of words.now)) result }
 {
@@ -63,7 +63,8 @@ pub fn read_snapshot(words: &[&[u8]]) -> Option<Option<u64>>
     }
 }
 
-/// A read, of a key and perhaps at a snapshot.
+/// Returns the read of a key, perhaps at a snapshot, or `None` if the words are none. `Err` if
+/// memory ran out.
 pub fn read_get(alloc: Global, words: &[&[u8]]) -> Result<Option<Op>, AllocError>
     ensures { IfOk result (Reads (Spells verb.Get (texts_of words.now))) }
 {
@@ -79,7 +80,8 @@ pub fn read_get(alloc: Global, words: &[&[u8]]) -> Result<Option<Op>, AllocError
     Ok(Some(Op::Get(key, snapshot)))
 }
 
-/// A move of an iterator to a key.
+/// Returns the move of an iterator to a key, or `None` if the words are none. `Err` if memory ran
+/// out.
 pub fn read_seek(alloc: Global, words: &[&[u8]]) -> Result<Option<Op>, AllocError>
     ensures { IfOk result (Reads (Spells verb.Seek (texts_of words.now))) }
 {
@@ -95,7 +97,7 @@ pub fn read_seek(alloc: Global, words: &[&[u8]]) -> Result<Option<Op>, AllocErro
     Ok(Some(Op::Seek(id, key)))
 }
 
-/// A compaction, of `all` or of the level of a number.
+/// Returns the compaction of `all` or of a level, or `None` if the words are none.
 pub fn read_compaction(words: &[&[u8]]) -> Option<Op>
     ensures { Reads (IsCompaction (texts_of words.now)) result }
 {
@@ -115,7 +117,7 @@ fn read_compaction_word(word: &[u8]) -> Option<Op>
     Some(Op::CompactLevel(level))
 }
 
-/// This command, where there is no word behind its verb.
+/// Returns this command if there is no word, or `None`.
 pub fn read_alone(words: &[&[u8]], command: Op) -> Option<Op>
     ensures { Reads (λ (found : OpValue). (texts_of words.now ≡ []) × (found ≡ command)) result }
 {

@@ -19,16 +19,16 @@ use std::alloc::Global;
 use std::io::Write;
 use store::Store;
 
-// How many entries a piece of work has behind a compaction.
+// How many entries a piece of work after a compaction has.
 const WORK_ENTRIES: u32 = 4_096;
 
-/// Compacts a level, or all of them, of the database that is there: opens it, compacts, works until there is no work,
-/// and closes it. The first refusal ends it, and a database that is open is closed behind that too. Writes `ok`, or the
-/// line of the refusal, and answers the exit status: 0, or 1 where it was refused. The listener is told of the
-/// refusal.
+/// Compacts a level, or all of them, of the database that is there, writes `ok` or the line of the
+/// refusal, and returns the exit status: 0, or 1 if it was refused. It opens the database,
+/// compacts, works until there is no work, and closes it, also after a refusal, of which the
+/// listener is told.
 ///
-/// A fault comes of the writer, or for want of memory for the line: all was done then, or refused. (Or work didn't end
-/// within as many pieces as 64 bits count.)
+/// `Fault` if the line couldn't be written or memory ran out for it: all was done then, or refused.
+/// (Or work didn't end within as many pieces as 64 bits count.)
 pub fn compact<S: Store, K: KeyOrder, W: Write, L: Listener>(
     alloc: Global,
     session: &mut Session<S, K>,
@@ -81,7 +81,7 @@ fn compaction_of(level: Option<u32>) -> Op
     }
 }
 
-// Works until there is no work: `Done` then, else the refusal. `Worked` says that there may be more.
+// Works until there is no work: `Done` then, else the refusal. `Worked`: there may be more.
 fn work_off<S: Store, K: KeyOrder>(alloc: Global, session: &mut Session<S, K>) -> Answer
     ensures { (commands : List OpValue) × (answers : List AnswerValue) × AreWorks commands answers result
         × GoesOn (order_of K.name K.cmp) S.facts session.old session.new commands answers }

@@ -8,8 +8,8 @@ use engine::Op;
 use std::alloc::{AllocError, Global};
 use std::mem;
 
-// With how many bytes of keys and values operations are written, though there may be more in a batch: so it stays far
-// below the bytes that a batch may have.
+// With how many bytes of keys and values operations are written, though a batch may have more: so
+// it stays far below the most bytes of a batch.
 const BATCH_BYTES: usize = 1_048_576;
 
 /// Operations that wait to be written together, and how many bytes their keys and values have.
@@ -20,7 +20,7 @@ pub struct Gathered {
 }
 
 impl Gathered {
-    /// None yet, with room for so many.
+    /// Returns none yet, with room for so many. `Err` if memory ran out.
     pub fn with_room(alloc: Global, most: usize) -> Result<Self, AllocError>
         ensures { IfOk result (λ gathered. gathered.operations.items ≡ []) }
     {
@@ -31,14 +31,14 @@ impl Gathered {
         })
     }
 
-    /// How many there are.
+    /// Returns how many there are.
     pub fn count(&self) -> usize
         ensures { result ≡ length self.now.operations.items }
     {
         self.operations.len()
     }
 
-    /// Puts one behind the others.
+    /// Adds one after the others. `Err` if memory ran out; the others stay.
     pub fn push(&mut self, operation: Operation) -> Result<(), AllocError>
         ensures ok { OnOk result (self.new.operations.items ≡ self.old.operations.items ++ operation ∷ []) }
         ensures err { OnErr result (self.new.operations.items ≡ self.old.operations.items) }
@@ -49,7 +49,7 @@ impl Gathered {
         Ok(())
     }
 
-    /// Whether they are a batch, of which this many operations are the most.
+    /// Returns whether they are a batch, of which this many operations are the most.
     pub fn is_full(&self, most: usize) -> bool
         ensures { MatchBool result ⊤ (length self.now.operations.items < most) }
     {
@@ -59,7 +59,7 @@ impl Gathered {
         self.bytes >= BATCH_BYTES
     }
 
-    /// The write of all of them. None waits behind it.
+    /// Returns the write of all of them. None waits then.
     pub fn take(&mut self, alloc: Global, sync: bool) -> Op
         ensures write { IsWrite self.old.operations.items sync result }
         ensures none { self.new.operations.items ≡ [] }
@@ -69,7 +69,7 @@ impl Gathered {
         Op::Write(operations, sync)
     }
 
-    /// Takes the memory of a write back that was answered, where nothing waits.
+    /// Takes back the memory of a write that was answered, while nothing waits.
     pub fn reuse(&mut self, write: Op)
         requires none { self.old.operations.items ≡ [] }
         ensures none { self.new.operations.items ≡ [] }

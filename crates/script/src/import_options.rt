@@ -8,8 +8,8 @@ use std::marker::Model;
 // How many operations a batch may have at most.
 const MOST_OPERATIONS: u64 = 65_536;
 
-/// How many operations are written as one batch at most, 1 to 65,536, and whether the device is to keep each batch before the
-/// next one. (The last one it keeps in any case, and all before it.)
+/// How many operations are written as one batch at most, 1 to 65,536, and whether each batch is
+/// synced before the next one. (The last one is synced in any case, and with it all before it.)
 #[derive(Clone, Copy, Debug, PartialEq, Eq)]
 pub struct Importing {
     batch: usize,
@@ -27,7 +27,8 @@ impl Model for Importing {
 }
 
 impl Importing {
-    /// None where a batch would have no operation, or more than 65,536.
+    /// Returns how an import goes, or `None` if a batch would have no operation, or more than
+    /// 65,536.
     pub fn new(batch: u64, sync: bool) -> Option<Self>
         ensures range { IsSome result ↔ ((1 ≤ batch) × (batch ≤ 65536)) }
         ensures kept { IfSome result (λ how. how ≡ record { batch = batch; sync = sync }) }
@@ -44,7 +45,7 @@ impl Importing {
         })
     }
 
-    /// How many operations a batch has at most.
+    /// Returns how many operations a batch has at most.
     pub fn batch(&self) -> usize
         ensures is { result ≡ self.now.batch }
         ensures range { (1 ≤ result) × (result ≤ 65536) }
@@ -52,7 +53,7 @@ impl Importing {
         self.batch
     }
 
-    /// Whether the device is to keep each batch before the next one.
+    /// Returns whether each batch is synced before the next one.
     pub fn sync(&self) -> bool
         ensures { result ≡ self.now.sync }
     {

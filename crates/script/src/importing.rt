@@ -32,19 +32,23 @@ use store::Store;
 // How many bytes of the lines are read at once.
 const INPUT_BYTES: usize = 65_536;
 
-/// How many entries of work are done for each operation: each is merged a few times on its way down the levels.
+/// How many entries of work are done for each operation: each is merged a few times on its way down
+/// the levels.
 pub const WORK_PER_OPERATION: u32 = 6;
 
-/// Imports lines, each a `put` with a key and a value or a `del` with a key, into the database that is there, or into a new one.
-/// They are written as batches, each once it has as many operations as it may have, or 1 MiB of keys and values, and a line more comes;
-/// behind each one work is done. What waits at the end of the lines is written too, and the device has all of it before the database
-/// is closed: a full batch waits, so that the last one, which is written with sync, is never without operations.
+/// Imports lines, each a `put` with a key and a value or a `del` with a key, into the database that
+/// is there, or into a new one, and returns the exit status: 0, or 1 if it was refused. It writes
+/// the line of the refusal, if there was one, and `taken` with the number of operations that were
+/// taken.
 ///
-/// The first command that is refused ends it, and so does a line that is none of the two, as `BadLine`; what waits isn't written
-/// then, and a database that is open is closed. Writes the line of the refusal, if there was one, and `taken` with the number of
-/// operations of the batches that were taken. Answers the exit status: 0, or 1 where it was refused.
+/// A batch is written once it has as many operations as it may have, or 1 MiB of keys and values,
+/// and another line comes; after each one work is done. What waits at the end of the lines is
+/// written with sync, and the database is closed. A full batch waits so that the last one is never
+/// empty.
 ///
-/// On a fault some first lines were taken, and the database is closed too. The listener is told of the refusal.
+/// The first command that is refused ends it, and so does a line that is none of the two, as
+/// `BadLine`. What waits isn't written then. The listener is told of the refusal. On a `Fault` some
+/// first lines were taken, and the database is closed too.
 pub fn import<S: Store, K: KeyOrder, R: Read + Drop, W: Write, L: Listener>(
     alloc: Global,
     session: &mut Session<S, K>,
@@ -112,7 +116,7 @@ fn import_opened<S: Store, K: KeyOrder, R: Read + Drop, L: Listener>(
     Ok(ended)
 }
 
-// Opens the database that is there, or a new one. Its answer, where that is a refusal.
+// Opens the database that is there, or a new one. Returns the answer if it is a refusal.
 fn open_any<S: Store, K: KeyOrder>(alloc: Global, session: &mut Session<S, K>) -> Option<Answer>
     ensures { MatchOption result (GoesOn (order_of K.name K.cmp) S.facts session.old session.new (Open Any ∷ []) (Done ∷ []))
         (λ refused. IsRefusal refused × GoesOn (order_of K.name K.cmp) S.facts session.old session.new (Open Any ∷ []) (refused ∷ [])) }
@@ -124,7 +128,7 @@ fn open_any<S: Store, K: KeyOrder>(alloc: Global, session: &mut Session<S, K>) -
     None
 }
 
-// Takes the lines that are left, and writes what waits behind them.
+// Takes the lines that are left, and writes what waits then.
 fn take_lines<S: Store, K: KeyOrder, R: Read, L: Listener>(
     alloc: Global,
     session: &mut Session<S, K>,
@@ -146,7 +150,7 @@ fn take_lines<S: Store, K: KeyOrder, R: Read, L: Listener>(
             tell_of_answer(listener, None, &last, session.store());
             return Ok(last);
         }
-        // (a full batch is written only now: had this been the last line, it would be the one with sync)
+        // (a full batch is written only now: after the last line it would be the one with sync)
         let made = make_room(alloc, session, how, &mut gathered, taken)?;
         if is_refusal(&made) {
             tell_of_answer(listener, Some(number), &made, session.store());
@@ -182,7 +186,7 @@ fn make_room<S: Store, K: KeyOrder>(
     Ok(made)
 }
 
-// Has a line's operation wait behind the others. Whether it says one.
+// Has a line's operation wait after the others. Returns whether it says one.
 fn take_line(alloc: Global, line: &[u8], gathered: &mut Gathered) -> Result<bool, AllocError>
     ensures { IfOk result (λ says. TakesOperation line.now gathered.old.operations.items gathered.new.operations.items says) }
 {
@@ -193,8 +197,8 @@ fn take_line(alloc: Global, line: &[u8], gathered: &mut Gathered) -> Result<bool
     Ok(true)
 }
 
-// Writes what waits as one batch, and does work behind it: `Done`, or the refusal that ended it. Where there is no memory,
-// nothing is done.
+// Writes what waits as one batch, and does work after it: `Done`, or the refusal that ended it. If
+// memory ran out, nothing is done.
 fn write_gathered<S: Store, K: KeyOrder>(
     alloc: Global,
     session: &mut Session<S, K>,
@@ -224,8 +228,9 @@ fn write_gathered<S: Store, K: KeyOrder>(
     Ok(work_behind_batch(alloc, session, entries))
 }
 
-// Does the work behind a batch: so many entries, and one more, which writes the table of a memory table that these have sealed (but for one that
-// it seals itself, behind a compaction's end). The next batch would have the device keep its log otherwise. `Done`, or the first refusal.
+// Does the work after a batch: so many entries, and one more, which writes the table of a memory
+// table that these have sealed (but for one that it seals itself, after a compaction's end).
+// Otherwise the next batch would sync its log. `Done`, or the first refusal.
 fn work_behind_batch<S: Store, K: KeyOrder>(
     alloc: Global,
     session: &mut Session<S, K>,
@@ -241,7 +246,7 @@ fn work_behind_batch<S: Store, K: KeyOrder>(
     done_or_refused(last)
 }
 
-// How many entries of work are done behind so many operations.
+// How many entries of work are done after so many operations.
 fn entries_of(how: &Importing, count: usize) -> u32
     requires few { count ≤ how.now.batch }
     ensures { result ≡ 6 * count }
@@ -261,7 +266,7 @@ fn done_or_refused(answer: Answer) -> Answer
     Answer::Done
 }
 
-// Puts the line of a refusal, if it is one, and the number of operations that were taken behind the text.
+// Appends the line of a refusal, if it is one, and the number of operations that were taken.
 fn push_report(
     alloc: Global,
     text: &mut Vec<u8>,

@@ -25,6 +25,7 @@ pub use compaction::compact;
 pub use fault::Fault;
 pub use import_options::Importing;
 pub use importing::import;
+pub use input::read_next_line;
 pub use line::{one_command, read_line, read_operation_line};
 pub use listener::{Listener, Nobody, Refusal};
 pub use misread::{Misread, Wanted, misread_line, misread_operation_line};

@@ -20,7 +20,8 @@ use std::alloc::{AllocError, Global};
 // How many words a line may have for which no memory is taken: all but those of `write`.
 const FEW: usize = 4;
 
-/// The command that a line says, without the newline that ends it, or `None` where it says none.
+/// Returns the command that a line says, without its newline, or `None` if it says none. `Err` if
+/// memory ran out.
 pub fn read_line(alloc: Global, line: &[u8]) -> Result<Option<Op>, AllocError>
     ensures { IfOk result (Reads (Says line.now)) }
 {
@@ -32,7 +33,8 @@ pub fn read_line(alloc: Global, line: &[u8]) -> Result<Option<Op>, AllocError>
     read_words(alloc, words.as_slice())
 }
 
-/// The operation that a line says, without the newline that ends it, or `None` where it says none.
+/// Returns the operation that a line says, without its newline, or `None` if it says none. `Err` if
+/// memory ran out.
 pub fn read_operation_line(alloc: Global, line: &[u8]) -> Result<Option<Operation>, AllocError>
     ensures { IfOk result (Reads (SaysOperation line.now)) }
 {
@@ -57,7 +59,7 @@ fn read_words(alloc: Global, words: &[&[u8]]) -> Result<Option<Op>, AllocError>
     read_rest(alloc, verb, rest)
 }
 
-// The command that a verb makes of the words behind it.
+// The command that a verb makes of the words after it.
 fn read_rest(alloc: Global, verb: Verb, words: &[&[u8]]) -> Result<Option<Op>, AllocError>
     ensures { IfOk result (Reads (Spells verb (texts_of words.now))) }
 {

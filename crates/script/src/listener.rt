@@ -5,21 +5,23 @@ use coding::DbError;
 use engine::Answer;
 use store::{Store, Trouble};
 
-/// A refusal, and where it was met.
+/// A refusal, and the line that met it.
 #[derive(Clone, Copy, Debug, PartialEq, Eq)]
 pub struct Refusal {
-    /// The number of the line, from 1 on, or `None` where no line asked for it, as for the open in front of an import.
+    /// The number of the line, from 1 on, or `None` if no line asked for it, as for the open before
+    /// an import.
     pub line: Option<u64>,
     /// The refusal.
     pub error: DbError,
-    /// What is wrong with the line, where it is `BadLine`.
+    /// What is wrong with the line, if it is `BadLine`.
     pub misread: Option<Misread>,
 }
 
 /// Who is told of refusals as they are answered. What it does with them changes no answer.
 pub trait Listener {
-    /// Told of each refusal, in their order, with the note that the store took last: it may be of an earlier refusal, or of none. A refusal of
-    /// the work that a line brought along comes behind that of the line, under the line's number.
+    /// Hears of each refusal, in their order, with the note that the store took last: it may be of
+    /// an earlier refusal, or of none. A refusal of the work that a line brought along comes after
+    /// that of the line, under the line's number.
     fn refused(&mut self, refusal: &Refusal, noted: Trouble);
 }
 

@@ -1,12 +1,13 @@
-//! What is wrong with a line that says no command. For the eye alone: `read_line` decides, and needs none of it.
+//! What is wrong with a line that says no command. For the eye alone: `read_line` decides, and
+//! needs none of it.
 
 use crate::verb::{Verb, read_verb};
 use crate::word::{read_number, read_small_number};
 
-/// The first word of a line that isn't what belongs there.
+/// The first word of a line that isn't what belongs there, and what does.
 #[derive(Clone, Copy, Debug, PartialEq, Eq)]
 pub struct Misread {
-    /// Its number, from 1 on: one more than there are words where the line ends too soon.
+    /// Its number, from 1 on: one more than there are words if the line ends too soon.
     pub word: usize,
     /// What belongs there.
     pub wanted: Wanted,
@@ -31,37 +32,39 @@ pub enum Wanted {
     Mode,
     /// Nothing.
     End,
+    /// No carriage return at the end of the line.
+    NoReturn,
 }
 
-/// What is wrong with a line of a script, or `None` where nothing is.
+/// Returns what is wrong with a line of a script, or `None` if nothing is.
 pub fn misread_line(line: &[u8]) -> Option<Misread> {
     misread_from(line, Place::Command)
 }
 
-/// The same of a line of an import.
+/// Returns what is wrong with a line of an import, or `None` if nothing is.
 pub fn misread_operation_line(line: &[u8]) -> Option<Misread> {
     misread_from(line, Place::Alone)
 }
 
-// What may stand next, by the words in front.
+// What may stand next, by the words before.
 #[derive(Clone, Copy, Debug, PartialEq, Eq)]
 enum Place {
     Command,
     Mode,
-    // a number and nothing behind it, or nothing
+    // a number and nothing more, or nothing
     PerhapsNumber,
     Number,
     SmallNumber,
     Level,
-    // the number of an iterator, and a key behind it
+    // the number of an iterator, and then a key
     Sought,
-    // a key, and perhaps the number of a snapshot behind it
+    // a key, and then perhaps the number of a snapshot
     Got,
-    // bytes and nothing behind them
+    // bytes and nothing more
     Bytes,
-    // bytes, and bytes behind them
+    // bytes, and then bytes
     TwoBytes,
-    // an operation and nothing behind it
+    // an operation and nothing more
     Alone,
     // `sync`, an operation, or the end
     Batch,
@@ -74,6 +77,12 @@ enum Place {
 }
 
 fn misread_from(line: &[u8], first: Place) -> Option<Misread> {
+    if line.ends_with(b"\r") {
+        return Some(Misread {
+            word: line.split(|byte| *byte == b' ').count(),
+            wanted: Wanted::NoReturn,
+        });
+    }
     let mut place = first;
     let mut word = 0_usize;
     for text in line.split(|byte| *byte == b' ') {
@@ -96,7 +105,7 @@ fn misread_at(word: usize, place: Place) -> Misread {
     }
 }
 
-// What may stand behind this word, where it belongs here.
+// What may stand after this word, if it belongs here.
 fn after(place: Place, word: &[u8]) -> Option<Place> {
     match place {
         Place::Command => Some(behind(read_verb(word)?)),
@@ -137,7 +146,7 @@ fn by_operation(word: &[u8], put: Place, delete: Place) -> Option<Place> {
     next_if(word == b"del".as_slice(), delete)
 }
 
-// What may stand behind the name of a command.
+// What may stand after the name of a command.
 fn behind(verb: Verb) -> Place {
     match verb {
         Verb::Open => Place::Mode,

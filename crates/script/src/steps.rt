@@ -11,7 +11,7 @@ use ikey::KeyOrder;
 use std::alloc::Global;
 use store::Store;
 
-/// Gives a session one command.
+/// Gives a session one command, and returns its answer.
 pub fn give<S: Store, K: KeyOrder>(
     alloc: Global,
     session: &mut Session<S, K>,
@@ -22,7 +22,7 @@ pub fn give<S: Store, K: KeyOrder>(
     session.apply(alloc, command)
 }
 
-/// Closes the database that is open, if one is. What that is answered is of no use.
+/// Closes the database that is open, if one is, and returns the answer, which nobody needs.
 pub fn shut<S: Store, K: KeyOrder>(alloc: Global, session: &mut Session<S, K>) -> Answer
     ensures closed { Applied (order_of K.name K.cmp) S.facts Close session.old session.new result }
     ensures shut { IsShut session.new }
@@ -30,7 +30,7 @@ pub fn shut<S: Store, K: KeyOrder>(alloc: Global, session: &mut Session<S, K>) -
     give(alloc, session, &Op::Close)
 }
 
-/// Whether a command was refused.
+/// Returns whether a command was refused.
 pub fn is_refusal(answer: &Answer) -> bool
     ensures { MatchBool result (IsRefusal answer.now) (IsRefusal answer.now → ⊥) }
 {
@@ -46,7 +46,7 @@ pub fn is_refusal(answer: &Answer) -> bool
     }
 }
 
-/// The exit status of what ended so.
+/// Returns the exit status of what ended so.
 pub fn status_of(ended: &Answer) -> u8
     ensures { result ≡ status_value ended.now }
 {

@@ -7,14 +7,15 @@ use coding::Bytes;
 use hex::FromHexError;
 use std::alloc::{AllocError, Global};
 
-/// The words of a line: what stands between its spaces.
+/// Returns the words of a line: what stands between its spaces. `Err` if memory ran out.
 pub fn split_words(alloc: Global, line: &[u8]) -> Result<Vec<&[u8]>, AllocError>
     ensures { IfOk result (λ words. texts_of words.items ≡ words_of line.now) }
 {
     line.split(|byte| *byte == b' ').collect(alloc)
 }
 
-/// How many words a line has, and these in front of the room, where they find room: so most lines take no memory for them.
+/// Puts the words of a line into the room, and returns how many there are, or `None` if they find
+/// no room. So most lines take no memory for them.
 pub fn few_words<'a>(line: &'a [u8], room: &mut [&'a [u8]]) -> Option<usize>
     ensures within { IfSome result (λ count. count ≤ length room.new) }
     ensures words { IfSome result (λ count. texts_of (take count room.new) ≡ words_of line.now) }
@@ -30,7 +31,8 @@ pub fn few_words<'a>(line: &'a [u8], room: &mut [&'a [u8]]) -> Option<usize>
     Some(count)
 }
 
-/// The number that a word writes in decimal, with no sign and no zero in front, where it is below 2^64.
+/// Returns the number below 2^64 that a word writes in decimal, with no sign and no leading zero,
+/// or `None` if it writes none.
 pub fn read_number(word: &[u8]) -> Option<u64>
     ensures { Reads (IsNumber 64 word.now) result }
 {
@@ -46,7 +48,7 @@ pub fn read_number(word: &[u8]) -> Option<u64>
     }
 }
 
-/// The same of a number below 2^32.
+/// Returns the number below 2^32 that a word writes so, or `None` if it writes none.
 pub fn read_small_number(word: &[u8]) -> Option<u32>
     ensures { Reads (IsNumber 32 word.now) result }
 {
@@ -57,7 +59,7 @@ pub fn read_small_number(word: &[u8]) -> Option<u32>
     Some(number as u32)
 }
 
-// Whether a number would have a sign, or a zero in front of other digits.
+// Whether a number would have a sign, or a leading zero.
 fn has_needless_front(word: &[u8]) -> bool
     ensures number { result ≡ true → (number : ℕ) → IsNumber 64 word.now number → ⊥ }
     ensures plain { result ≡ false → IsPlain word.now }
@@ -74,7 +76,8 @@ fn has_needless_front(word: &[u8]) -> bool
     word.len() > 1
 }
 
-/// The bytes that a word writes with two hexadecimal digits each, of either case, or as `-` where there are none.
+/// Returns the bytes that a word writes with two hexadecimal digits each, of either case, or as `-`
+/// for none, or `None` if it writes none. `Err` if memory ran out.
 pub fn read_bytes(alloc: Global, word: &[u8]) -> Result<Option<Bytes>, AllocError>
     ensures { IfOk result (Reads (IsByteString word.now)) }
 {

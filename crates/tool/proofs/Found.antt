@@ -4,9 +4,9 @@ use Rattle.std.specs.Prelude.{Option, Some, None, Result, Ok, IfSome, option_map
 use Rattle.std.specs.Borrow.{Bor}
 use Rattle.std.specs.Str.Parse.{ParsesUnsigned}
 use Rattle.std.proofs.lemmas.Option.{none-some}
-use Rattle.clap.specs.Words.{ReadsOne, Row, Text, first_of, first_value, one_text, rows_of, subcommand_name_of, subcommand_rows, subcommand_rows_of}
+use Rattle.clap.specs.Words.{ReadsOne, Row, Text, all_of, first_of, first_value, matched_of, one_text, raw_values, rows_of, subcommand_name_of, subcommand_rows, subcommand_rows_of}
 use Rattle.clap.specs.declared.parser.matches.Found.{Found}
-use Rattle.clap.proofs.WalkLemmas.{first_value-rows, one_text-rows}
+use Rattle.clap.proofs.WalkLemmas.{first_value-rows, one_text-rows, raw_values-rows}
 use Rattle.clap.specs.declared.parser.matches.ArgMatches.{ArgMatches}
 use Rattle.clap.specs.declared.parser.matches.ArgMatches.TheViews.{out-ArgMatches, out-SubCommand}
 use Rattle.clap.specs.declared.parser.matches.SubCommand.{SubCommand}
@@ -47,3 +47,7 @@ word_by_rows f name word e = sym (first_value-rows f name) ∙ sym e
 -- a word that may be left out
 pub word_given : (f : Found) (name : Text) (word : Option (Bor Text)) → option_map (λ (w : Bor Text). w.now) word ≡ first_value f name → first_of name (rows_of f) ≡ option_map (λ (w : Bor Text). w.now) word
 word_given f name word e = sym (first_value-rows f name) ∙ sym e
+
+-- all words of a name, by the rows
+pub words_by_rows : (f : Found) (name : Text) (words : List Text) → Some words ≡ option_map raw_values (matched_of f name) → all_of name (rows_of f) ≡ Some words
+words_by_rows f name words e = sym (raw_values-rows f name) ∙ sym e

@@ -1,7 +1,7 @@
 -- The command line, in clap's terms.
 use Rattle.std.specs.Prelude.{◌≡◌, ◌^◌, ◌-◌, ℕ, [], ◌∷◌, true, false, Some, codes}
 use Rattle.clap.specs.Words.{App, Rule, Text, app_of, new_app, new_rule, rule_of, with_rule, with_subcommand}
-use Rattle.clap.specs.declared.builder.action.ArgAction.TheVariants.{SetTrue}
+use Rattle.clap.specs.declared.builder.action.ArgAction.TheVariants.{Append, SetTrue}
 use Rattle.clap.specs.declared.builder.arg.Arg.{Arg}
 use Rattle.clap.specs.declared.builder.command.Command.{Command}
 use Rattle.clap.specs.declared.builder.command.Command.TheViews.{out-Command as fields_of}
@@ -38,12 +38,17 @@ flag_rule name = record (new_rule name) {
 abbrev pub order_rule : Rule
 order_rule = record (word_rule (codes "order")) { defaults = codes "bytes" ∷ [] }
 
--- DIR and KEY, which must be there
-abbrev pub folder_rule : Rule
-folder_rule = record (new_rule (codes "DIR")) { required = true }
+-- a word that must be there
+abbrev pub given_rule : Text → Rule
+given_rule name = record (new_rule name) { required = true }
 
-abbrev pub key_rule : Rule
-key_rule = record (new_rule (codes "KEY")) { required = true }
+-- DIR
+abbrev pub folder_rule : Rule
+folder_rule = given_rule (codes "DIR")
+
+-- KEY, once or more often
+abbrev pub keys_rule : Rule
+keys_rule = record (given_rule (codes "KEY")) { action = Some Append }
 
 -- ---- what commands have in common
 
@@ -62,35 +67,41 @@ with_options app =
     (number_rule (codes "base-bytes") (codes "10485760") (2 ^ 40)))
     (number_rule (codes "cache-blocks") (codes "1024") 65536)
 
+-- keys and values as text
+abbrev pub with_text : App → App
+with_text app = with_rule app (flag_rule (codes "text"))
+
 -- ---- commands
 
 abbrev pub get_app : App
-get_app = with_rule (with_place (with_rule (new_app (codes "get")) (flag_rule (codes "text")))) key_rule
+get_app = with_rule (with_place (with_rule (with_text (new_app (codes "get"))) (flag_rule (codes "raw")))) keys_rule
+
+-- which keys
+abbrev pub with_bounds : App → App
+with_bounds app =
+    with_rule (with_rule (with_rule app
+    (word_rule (codes "from")))
+    (word_rule (codes "to")))
+    (word_rule (codes "prefix"))
 
 -- which keys, and how many of them, from which end
 abbrev pub with_range : App → App
 with_range app =
-    with_rule (with_rule (with_rule (with_rule (with_rule app
-    (word_rule (codes "from")))
-    (word_rule (codes "to")))
-    (word_rule (codes "prefix")))
-    (optional_rule (codes "limit") 0 (2 ^ 64 - 1)))
-    (flag_rule (codes "reverse"))
+    with_rule (with_rule (with_bounds app) (optional_rule (codes "limit") 0 (2 ^ 64 - 1))) (flag_rule (codes "reverse"))
 
 -- as what keys and values are printed
 abbrev pub with_notation : App → App
-with_notation app = with_rule (with_rule app (flag_rule (codes "text"))) (flag_rule (codes "json"))
+with_notation app = with_rule (with_text app) (flag_rule (codes "json"))
 
 -- what of a pair is printed, and how
 abbrev pub with_style : App → App
 with_style app = with_notation (with_rule app (flag_rule (codes "values")))
 
 abbrev pub scan_app : App
-scan_app = with_place (with_style (with_range (new_app (codes "scan"))))
+scan_app = with_place (with_style (with_rule (with_range (new_app (codes "scan"))) (flag_rule (codes "count"))))
 
--- a command that has a folder alone
-abbrev pub reading_app : Text → App
-reading_app name = with_place (new_app name)
+abbrev pub export_app : App
+export_app = with_place (with_bounds (new_app (codes "export")))
 
 abbrev pub stats_app : App
 stats_app = with_place (with_rule (new_app (codes "stats")) (flag_rule (codes "json")))
@@ -110,10 +121,21 @@ run_app = with_place (with_options (with_rule (with_rule (new_app (codes "run"))
 
 abbrev pub import_app : App
 import_app =
-    with_place (with_options (with_rule (with_rule (new_app (codes "import")) (number_rule (codes "batch") (codes "1000") 65536)) (flag_rule (codes "sync"))))
+    with_place (with_options (with_rule (with_rule (with_rule (new_app (codes "import"))
+    (number_rule (codes "batch") (codes "1000") 65536))
+    (flag_rule (codes "sync")))
+    (flag_rule (codes "create"))))
 
 abbrev pub compact_app : App
 compact_app = with_place (with_options (with_rule (new_app (codes "compact")) (optional_rule (codes "level") 0 5)))
+
+abbrev pub put_app : App
+put_app =
+    with_rule (with_rule (with_place (with_text (new_app (codes "put")))) (given_rule (codes "KEY")))
+    (given_rule (codes "VALUE"))
+
+abbrev pub del_app : App
+del_app = with_rule (with_place (with_text (new_app (codes "del")))) (given_rule (codes "KEY"))
 
 -- the command itself, which has a version and takes a subcommand
 abbrev pub bare_app : App
@@ -128,14 +150,20 @@ with_readers app =
     with_subcommand (with_subcommand (with_subcommand (with_subcommand (with_subcommand (with_subcommand app
     get_app.top)
     scan_app.top)
-    (reading_app (codes "export")).top)
+    export_app.top)
     stats_app.top)
     check_app.top)
     dump_app.top
 
 -- those that write
 abbrev pub with_writers : App → App
-with_writers app = with_subcommand (with_subcommand (with_subcommand app run_app.top) import_app.top) compact_app.top
+with_writers app =
+    with_subcommand (with_subcommand (with_subcommand (with_subcommand (with_subcommand app
+    run_app.top)
+    import_app.top)
+    compact_app.top)
+    put_app.top)
+    del_app.top
 
 abbrev pub the_app : App
 the_app = with_writers (with_readers bare_app)

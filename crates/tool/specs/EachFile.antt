@@ -21,7 +21,8 @@ abbrev pub origins_of_overview : Overview → List Origin
 origins_of_overview overview =
     map (λ (placed : PlacedTable). Table placed.level placed.table.number) overview.layout.tables.items ++ map (λ (log : LogLength). Log log.number) overview.logs.items
 
--- The lines of the entries of a file are written; or it is refused, which has no line, but a status.
+-- The lines of the entries of a file are written; or it is refused, which has no line, but a
+-- status.
 abbrev pub PrintsIfSound : Order → Notation → Origin → Facts → Facts → Option (List ℕ) → Option (List ℕ) → ℕ → Type 0
 PrintsIfSound order notation origin old new before after status =
     ((entries : List Entry) × IsFileRead order origin old new (Ok entries) × Appends before after (texts (entry_line_of notation origin) entries) × (status ≡ 0))

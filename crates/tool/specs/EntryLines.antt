@@ -9,7 +9,7 @@ use Rattle.browse.specs.Forms.{digits_of, text_in}
 use Rattle.tool.specs.declared.task.Notation.{Notation}
 use Rattle.tool.specs.declared.task.Notation.TheVariants.{Words, Json}
 
--- ---- words: table 1 5 KEY 3 put VALUE · log 2 KEY 3 delete; in hexadecimal where nothing else is asked for
+-- ---- words: table 1 5 KEY 3 put VALUE · log 2 KEY 3 delete; in hexadecimal by default
 
 -- the file of an entry
 abbrev pub origin_words_of : Origin → List ℕ
@@ -25,7 +25,8 @@ abbrev pub entry_words_of : Form → Origin → Entry → List ℕ
 entry_words_of form origin entry =
     origin_words_of origin ++ 32 ∷ text_in form entry.key ++ 32 ∷ decimal entry.sequence ++ 32 ∷ change_words_of form entry.value
 
--- ---- objects of JSON: {"file":"table","level":1,"number":5,"key":"6b","sequence":3,"kind":"put","value":"76"} ·
+-- ---- objects of JSON:
+-- {"file":"table","level":1,"number":5,"key":"6b","sequence":3,"kind":"put","value":"76"}
 -- {"file":"log","number":2,"key":"6b","sequence":3,"kind":"delete"}
 
 abbrev pub origin_object_of : Origin → List ℕ

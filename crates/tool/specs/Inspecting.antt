@@ -40,7 +40,8 @@ pub record IsFileRead (order : Order) (origin : Origin) (old new : Facts) (answe
   pub refused : IfErr answer (λ error. RefusesDirectory error old new (HasNoEntries order old.files origin) (PassesLimitAt order old.files origin))
   pub still : IsStill old new answer
 
--- The lines of the entries of a file are written, in this notation, or its refusal, with which all ends: then there is a status.
+-- The lines of the entries of a file are written, in this notation, or its refusal, with which all
+-- ends: then there is a status.
 abbrev pub PrintsFile : Order → Notation → Origin → Facts → Facts → Option (List ℕ) → Option (List ℕ) → Option ℕ → Type 0
 PrintsFile order notation origin old new before after None =
     (entries : List Entry) × IsFileRead order origin old new (Ok entries) × Appends before after (texts (entry_line_of notation origin) entries)
@@ -54,7 +55,8 @@ PrintsFiles order notation (origin ∷ origins) old new before after status =
     PrintsFile order notation origin old new before after (Some status)
     ⊎ ((mid : Facts) × (between : Option (List ℕ)) × PrintsFile order notation origin old mid before between None × PrintsFiles order notation origins mid new between after status)
 
--- The directory is checked. Its refusal is written; or the entries of its files, of which an empty one has none.
+-- The directory is checked. Its refusal is written; or the entries of its files, of which an empty
+-- one has none.
 abbrev pub DumpsAnswer : Order → Notation → Result Report DbError → Facts → Facts → Option (List ℕ) → Option (List ℕ) → ℕ → Type 0
 DumpsAnswer order notation (Ok Empty) old new before after status = (new ≡ old) × (after ≡ before) × (status ≡ 0)
 DumpsAnswer order notation (Ok (Good summary)) old new before after status = PrintsFiles order notation (origins_of_summary summary) old new before after status

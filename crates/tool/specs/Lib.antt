@@ -5,3 +5,4 @@ pub mod EntryLines
 pub mod Inspecting
 pub mod Statistics
 pub mod EachFile
+pub mod OneWrite

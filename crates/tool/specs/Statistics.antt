@@ -12,7 +12,7 @@ use Rattle.recover.specs.Reading.{HasNoManifest, IsBeyondReading, IsCounted, Rea
 use Rattle.recover.specs.declared.overview.LogLength.{LogLength}
 use Rattle.recover.specs.declared.overview.Overview.{Overview}
 use Rattle.store.specs.Files.{Facts}
-use Rattle.tool.specs.Reports.{check_text_of, texts}
+use Rattle.tool.specs.Reports.{texts}
 use Rattle.versions.specs.Uses.{AreUses}
 use Rattle.versions.specs.declared.level_uses.LevelUse.{LevelUse}
 
@@ -67,7 +67,8 @@ log_length_line_of true log = log_length_object_of log
 
 -- ---- the whole
 
--- The database's lines, those of the seven levels, and those of the live logs. A compaction is due by LevelDB's thresholds.
+-- The database's lines, those of the seven levels, and those of the live logs. A compaction is due
+-- by LevelDB's thresholds.
 pub record PrintsOverview (comparator : List ℕ) (json : Bool) (overview : Overview) (before after : Option (List ℕ)) : Type 0 where
   pub levels : List LevelUse
   pub counted : AreUses default_values.level0_files default_values.base_bytes overview.layout.tables.items 0 7 levels
@@ -80,11 +81,11 @@ pub record IsLookedOver (order : Order) (old new : Facts) (answer : Result (Opti
   pub refused : IfErr answer (λ error. RefusesDirectory error old new ((IsEmpty old.files → ⊥) × HasNoManifest order old.files) (IsBeyondReading order old.files))
   pub counted : IsCounted old new answer
 
--- Nothing of a directory without a database, or the refusal.
+-- Nothing of a directory without a database, or of one that is refused.
 abbrev pub PrintsAnswer : Order → Bool → Result (Option Overview) DbError → Option (List ℕ) → Option (List ℕ) → ℕ → Type 0
 PrintsAnswer order json (Ok (Some overview)) before after status = PrintsOverview order.name json overview before after × (status ≡ 0)
-PrintsAnswer order json (Ok None) before after status = (after ≡ before) × (status ≡ 0)
-PrintsAnswer order json (Err error) before after status = Appends before after (check_text_of (Err error)) × (status ≡ 1)
+PrintsAnswer order json (Ok None) before after status = (after ≡ before) × (status ≡ 1)
+PrintsAnswer order json (Err error) before after status = (after ≡ before) × (status ≡ 1)
 
 abbrev pub PrintsStats : Order → Bool → Facts → Facts → Option (List ℕ) → Option (List ℕ) → ℕ → Type 0
 PrintsStats order json old new before after status = (answer : Result (Option Overview) DbError) × IsLookedOver order old new answer × PrintsAnswer order json answer before after status

@@ -1,26 +1,32 @@
 -- What the words of the command line ask for.
-use Rattle.std.specs.Prelude.{◌≡◌, ℕ, Bool, true, false, List, Option, Some, None, Ok, codes, option_map}
+use Rattle.std.specs.Prelude.{◌≡◌, ◌≤◌, ℕ, Bool, true, false, List, map, length, Option, Some, None, Ok, codes}
+use Rattle.std.specs.Prelude.{option_map}
 use Rattle.std.specs.Borrow.{Bor}
 use Rattle.std.specs.Str.Parse.{ParsesUnsigned}
-use Rattle.clap.specs.Words.{Row, Text, first_of, one_of, subcommand_of}
+use Rattle.clap.specs.Words.{Row, Text, all_of, first_of, one_of, subcommand_of}
 use Rattle.engine.specs.OptionValues.{AreInRange, OptionValues}
 use Rattle.browse.specs.declared.form.Form.{Form}
 use Rattle.browse.specs.declared.form.Form.TheVariants as form
 use Rattle.browse.specs.declared.style.Style.{Style}
 use Rattle.browse.specs.declared.style.Style.TheVariants as style
 use Rattle.script.specs.Words.{IsByteString}
+use Rattle.texts.specs.Texts.{IsText}
 use Rattle.tool.specs.CommandLine.{the_app}
+use Rattle.tool.specs.declared.task.Bounds.{Bounds}
 use Rattle.tool.specs.declared.task.Lookup.{Lookup}
+use Rattle.tool.specs.declared.task.Named.{Named}
 use Rattle.tool.specs.declared.task.Notation.{Notation}
 use Rattle.tool.specs.declared.task.Notation.TheVariants.{Words, Json}
 use Rattle.tool.specs.declared.task.Numbers.{Numbers}
 use Rattle.tool.specs.declared.task.OrderName.{OrderName}
 use Rattle.tool.specs.declared.task.OrderName.TheVariants.{Bytes, Reverse}
+use Rattle.tool.specs.declared.task.Pair.{Pair}
 use Rattle.tool.specs.declared.task.Place.{Place}
 use Rattle.tool.specs.declared.task.Pieces.{Pieces}
 use Rattle.tool.specs.declared.task.Search.{Search}
 use Rattle.tool.specs.declared.task.Task.{Task}
 use Rattle.tool.specs.declared.task.Task.TheVariants.{Get, Scan, Export, Check, Stats, Dump, Run, Import, Compact}
+use Rattle.tool.specs.declared.task.Task.TheVariants.{Put, Del}
 use Rattle.tool.specs.declared.task.Turns.{Turns}
 
 -- ---- an option
@@ -87,16 +93,36 @@ abbrev pub form_of : Bool → Form
 form_of true = form.Text
 form_of false = form.Hex
 
--- the bytes that a word is: two hexadecimal digits each, or its own
+-- the bytes that a word is: two hexadecimal digits each, or as text
 abbrev pub IsKey : Form → Text → List ℕ → Type 0
 IsKey form.Hex word key = IsByteString word key
-IsKey form.Text word key = key ≡ word
+IsKey form.Text word key = IsText word key
 
+-- what is found for this name, all of it
+abbrev pub AreWords : Text → List Row → List (Bor Text) → Type 0
+AreWords name rows words = all_of name rows ≡ Some (map (λ (w : Bor Text). w.now) words)
+
+-- keys, of which one alone may be written as its bytes
 pub record IsLookup (rows : List Row) (lookup : Lookup) : Type 0 where
-  pub key : first_of (codes "KEY") rows ≡ Some lookup.key.now
+  pub keys : AreWords (codes "KEY") rows lookup.keys.items
   pub text : Bool
   pub given : IsFlag (codes "text") rows text
   pub form : lookup.form ≡ form_of text
+  pub raw : IsFlag (codes "raw") rows lookup.raw
+  pub alone : lookup.raw ≡ true → length lookup.keys.items ≤ 1
+
+pub record IsPair (rows : List Row) (pair : Pair) : Type 0 where
+  pub key : first_of (codes "KEY") rows ≡ Some pair.key.now
+  pub value : first_of (codes "VALUE") rows ≡ Some pair.value.now
+  pub text : Bool
+  pub given : IsFlag (codes "text") rows text
+  pub form : pair.form ≡ form_of text
+
+pub record IsNamed (rows : List Row) (named : Named) : Type 0 where
+  pub key : first_of (codes "KEY") rows ≡ Some named.key.now
+  pub text : Bool
+  pub given : IsFlag (codes "text") rows text
+  pub form : named.form ≡ form_of text
 
 -- what --json and --text ask for: not both at once
 abbrev pub notation_of : (json text : Bool) → Option Notation
@@ -125,15 +151,20 @@ pub record IsStyle (rows : List Row) (s : Style) : Type 0 where
   pub values_given : IsFlag (codes "values") rows values
   pub style : s ≡ style_of notation values
 
--- which pairs: a prefix is a range in the order of bytes alone
+-- which keys: a prefix is a range in the order of bytes alone
+pub record AreBounds (rows : List Row) (order : OrderName) (bounds : Bounds) : Type 0 where
+  pub from : IsWord (codes "from") rows bounds.from
+  pub to : IsWord (codes "to") rows bounds.to
+  pub prefix : IsWord (codes "prefix") rows bounds.prefix
+  pub ranged : order ≡ Reverse → bounds.prefix ≡ None
+
+-- which pairs
 pub record IsSearch (rows : List Row) (order : OrderName) (search : Search) : Type 0 where
-  pub from : IsWord (codes "from") rows search.from
-  pub to : IsWord (codes "to") rows search.to
-  pub prefix : IsWord (codes "prefix") rows search.prefix
+  pub bounds : AreBounds rows order search.bounds
   pub limit : IsOptional (codes "limit") rows search.limit
   pub reverse : IsFlag (codes "reverse") rows search.reverse
+  pub count : IsFlag (codes "count") rows search.count
   pub style : IsStyle rows search.style
-  pub ranged : order ≡ Reverse → search.prefix ≡ None
 
 -- ---- scripts, imports, compactions
 
@@ -149,6 +180,7 @@ pub record AreTurns (rows : List Row) (turns : Turns) : Type 0 where
 pub record ArePieces (rows : List Row) (pieces : Pieces) : Type 0 where
   pub batch : IsNumberOf (codes "batch") rows pieces.batch
   pub sync : IsFlag (codes "sync") rows pieces.sync
+  pub create : IsFlag (codes "create") rows pieces.create
 
 -- ---- tasks
 
@@ -156,7 +188,8 @@ pub record ArePieces (rows : List Row) (pieces : Pieces) : Type 0 where
 abbrev pub AsksFor : Option Text → Option (List Row) → Task → Type 0
 AsksFor (Some name) (Some rows) (Get place lookup) = (name ≡ codes "get") × IsPlace rows place × IsLookup rows lookup
 AsksFor (Some name) (Some rows) (Scan place search) = (name ≡ codes "scan") × IsPlace rows place × IsSearch rows place.order search
-AsksFor (Some name) (Some rows) (Export place) = (name ≡ codes "export") × IsPlace rows place
+AsksFor (Some name) (Some rows) (Export place bounds) =
+    (name ≡ codes "export") × IsPlace rows place × AreBounds rows place.order bounds
 AsksFor (Some name) (Some rows) (Check place on) = (name ≡ codes "check") × IsPlace rows place × IsFlag (codes "keep-going") rows on
 AsksFor (Some name) (Some rows) (Stats place json) = (name ≡ codes "stats") × IsPlace rows place × IsFlag (codes "json") rows json
 AsksFor (Some name) (Some rows) (Dump place notation on) = (name ≡ codes "dump") × IsPlace rows place × IsNotation rows notation × IsFlag (codes "keep-going") rows on
@@ -164,6 +197,8 @@ AsksFor (Some name) (Some rows) (Run place numbers turns) = (name ≡ codes "run
 AsksFor (Some name) (Some rows) (Import place numbers pieces) = (name ≡ codes "import") × IsPlace rows place × HaveNumbers rows numbers × ArePieces rows pieces
 AsksFor (Some name) (Some rows) (Compact place numbers level) =
     (name ≡ codes "compact") × IsPlace rows place × HaveNumbers rows numbers × IsOptional (codes "level") rows level
+AsksFor (Some name) (Some rows) (Put place pair) = (name ≡ codes "put") × IsPlace rows place × IsPair rows pair
+AsksFor (Some name) (Some rows) (Del place named) = (name ≡ codes "del") × IsPlace rows place × IsNamed rows named
 AsksFor _ _ task = ⊥
 
 abbrev pub AsksForIn : Option (Text × List Row) → Task → Type 0

@@ -1,21 +1,21 @@
 // The options and words of the command line, one by one, as `clap` is told of them.
 
 ghost use Rattle.std.specs.Prelude.{◌≡◌, ◌≤◌, ◌^◌, ◌-◌, codes};
-ghost use Rattle.tool.specs.CommandLine.{flag_rule, folder_rule, key_rule, number_rule, optional_rule, order_rule, word_rule, IsArg};
+ghost use Rattle.tool.specs.CommandLine.{flag_rule, folder_rule, given_rule, keys_rule, number_rule, optional_rule, order_rule, word_rule, IsArg};
 
 use crate::help;
 use clap::builder::ValueParser;
 use clap::{Arg, ArgAction};
 use std::alloc::Global;
 
-/// The folder of the database.
+/// Returns DIR, the folder of the database.
 pub fn folder<'a>(alloc: Global) -> Arg<'a>
     ensures { IsArg result (folder_rule) }
 {
     Arg::new(alloc, "DIR").required(true).help(help::FOLDER)
 }
 
-/// The order of the keys.
+/// Returns `--order`, the order of the keys.
 pub fn order<'a>(alloc: Global) -> Arg<'a>
     ensures { IsArg result (order_rule) }
 {
@@ -26,14 +26,24 @@ pub fn order<'a>(alloc: Global) -> Arg<'a>
         .help(help::ORDER)
 }
 
-/// The key that is looked up.
-pub fn key<'a>(alloc: Global) -> Arg<'a>
-    ensures { IsArg result (key_rule) }
+/// Returns KEY, once or more often: the keys that are looked up.
+pub fn keys<'a>(alloc: Global) -> Arg<'a>
+    ensures { IsArg result (keys_rule) }
 {
-    Arg::new(alloc, "KEY").required(true).help(help::KEY)
+    Arg::new(alloc, "KEY")
+        .required(true)
+        .action(ArgAction::Append)
+        .help(help::KEYS)
 }
 
-/// A flag.
+/// Returns a word of this name that must be there.
+pub fn given<'a>(alloc: Global, name: &'a str, help: &'a str) -> Arg<'a>
+    ensures { IsArg result (given_rule name.entry.now) }
+{
+    Arg::new(alloc, name).required(true).help(help)
+}
+
+/// Returns a flag of this name.
 pub fn flag<'a>(alloc: Global, name: &'a str, help: &'a str) -> Arg<'a>
     ensures { IsArg result (flag_rule name.entry.now) }
 {
@@ -43,28 +53,28 @@ pub fn flag<'a>(alloc: Global, name: &'a str, help: &'a str) -> Arg<'a>
         .help(help)
 }
 
-/// An option with a key, which may be left out.
+/// Returns an option with a key, which may be left out.
 pub fn bound<'a>(alloc: Global, name: &'a str, help: &'a str) -> Arg<'a>
     ensures { IsArg result (word_rule name.entry.now) }
 {
     Arg::new(alloc, name).long(name).value_name("K").help(help)
 }
 
-/// How many pairs at most, which may be left out.
+/// Returns `--limit`: how many pairs at most; it may be left out.
 pub fn limit<'a>(alloc: Global) -> Arg<'a>
     ensures { IsArg result (optional_rule (codes "limit") 0 (2 ^ 64 - 1)) }
 {
     optional(alloc, "limit", "N", 0, u64::MAX).help(help::LIMIT)
 }
 
-/// The level that is compacted, which may be left out: all are then.
+/// Returns `--level`: the level that is compacted; all, if it is left out.
 pub fn level<'a>(alloc: Global) -> Arg<'a>
     ensures { IsArg result (optional_rule (codes "level") 0 5) }
 {
     optional(alloc, "level", "L", 0, 5).help(help::LEVEL)
 }
 
-/// Whether work is done behind each write, by the word `auto`; it may be left out.
+/// Returns `--work`: work after each write, by the word `auto`; it may be left out.
 pub fn work<'a>(alloc: Global) -> Arg<'a>
     ensures { IsArg result (word_rule (codes "work")) }
 {
@@ -74,14 +84,14 @@ pub fn work<'a>(alloc: Global) -> Arg<'a>
         .help(help::WORK)
 }
 
-/// How many operations a batch has.
+/// Returns `--batch`: how many operations a batch has.
 pub fn batch<'a>(alloc: Global) -> Arg<'a>
     ensures { IsArg result (number_rule (codes "batch") (codes "1000") (65536)) }
 {
     number(alloc, "batch", "1000", 65_536).help(help::BATCH)
 }
 
-/// The option of a database of this name.
+/// Returns `--write-buffer`.
 pub fn write_buffer<'a>(alloc: Global) -> Arg<'a>
     ensures { IsArg result (number_rule (codes "write-buffer") (codes "4194304") (2 ^ 30)) }
 {
@@ -90,7 +100,7 @@ pub fn write_buffer<'a>(alloc: Global) -> Arg<'a>
     )
 }
 
-/// The option of a database of this name.
+/// Returns `--block-bytes`.
 pub fn block_bytes<'a>(alloc: Global) -> Arg<'a>
     ensures { IsArg result (number_rule (codes "block-bytes") (codes "4096") (2 ^ 20)) }
 {
@@ -99,7 +109,7 @@ pub fn block_bytes<'a>(alloc: Global) -> Arg<'a>
     )
 }
 
-/// The option of a database of this name.
+/// Returns `--file-bytes`.
 pub fn file_bytes<'a>(alloc: Global) -> Arg<'a>
     ensures { IsArg result (number_rule (codes "file-bytes") (codes "2097152") (2 ^ 30)) }
 {
@@ -108,7 +118,7 @@ pub fn file_bytes<'a>(alloc: Global) -> Arg<'a>
     )
 }
 
-/// The option of a database of this name.
+/// Returns `--level0-files`.
 pub fn level0_files<'a>(alloc: Global) -> Arg<'a>
     ensures { IsArg result (number_rule (codes "level0-files") (codes "4") (1024)) }
 {
@@ -117,7 +127,7 @@ pub fn level0_files<'a>(alloc: Global) -> Arg<'a>
     )
 }
 
-/// The option of a database of this name.
+/// Returns `--base-bytes`.
 pub fn base_bytes<'a>(alloc: Global) -> Arg<'a>
     ensures { IsArg result (number_rule (codes "base-bytes") (codes "10485760") (2 ^ 40)) }
 {
@@ -126,7 +136,7 @@ pub fn base_bytes<'a>(alloc: Global) -> Arg<'a>
     )
 }
 
-/// The option of a database of this name.
+/// Returns `--cache-blocks`.
 pub fn cache_blocks<'a>(alloc: Global) -> Arg<'a>
     ensures { IsArg result (number_rule (codes "cache-blocks") (codes "1024") (65536)) }
 {

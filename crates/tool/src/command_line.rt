@@ -2,17 +2,17 @@
 
 ghost use Rattle.std.specs.Prelude.{◌≡◌, IfOk};
 ghost use Rattle.clap.specs.Words.{App, new_app, with_subcommand};
-ghost use Rattle.tool.specs.CommandLine.{the_app, get_app, scan_app, reading_app, stats_app, check_app, dump_app, run_app, import_app, compact_app, with_readers, with_writers, with_place, with_options, with_range, with_notation, with_style, IsCommand};
+ghost use Rattle.tool.specs.CommandLine.{the_app, get_app, scan_app, export_app, stats_app, check_app, dump_app, run_app, import_app, compact_app, put_app, del_app, with_readers, with_writers, with_place, with_options, with_bounds, with_range, with_notation, with_style, IsCommand};
 
 use crate::arguments::{
-    base_bytes, batch, block_bytes, bound, cache_blocks, file_bytes, flag, folder, key, level,
-    level0_files, limit, order, work, write_buffer,
+    base_bytes, batch, block_bytes, bound, cache_blocks, file_bytes, flag, folder, given, keys,
+    level, level0_files, limit, order, work, write_buffer,
 };
 use crate::help;
 use clap::Command;
 use std::alloc::{AllocError, Global};
 
-/// The whole command, of this version.
+/// Returns the whole command, of this version. `Err` if memory ran out.
 pub fn command<'a>(alloc: Global, version: &'a str) -> Result<Command<'a>, AllocError>
     ensures { IfOk result (λ command. IsCommand command the_app) }
 {
@@ -33,7 +33,7 @@ fn add_readers<'a>(alloc: Global, command: Command<'a>) -> Result<Command<'a>, A
 {
     let first = add(command, get(alloc))?;
     let second = add(first, scan(alloc))?;
-    let third = add(second, reading(alloc, "export", help::EXPORT, help::PUTS))?;
+    let third = add(second, export(alloc))?;
     let fourth = add(third, stats(alloc))?;
     let fifth = add(fourth, check(alloc))?;
     let whole = add(fifth, dump(alloc))?;
@@ -46,11 +46,14 @@ fn add_writers<'a>(alloc: Global, command: Command<'a>) -> Result<Command<'a>, A
 {
     let first = add(command, run(alloc))?;
     let second = add(first, import(alloc))?;
-    let whole = add(second, compact(alloc))?;
+    let third = add(second, compact(alloc))?;
+    let fourth = add(third, put(alloc))?;
+    let whole = add(fourth, del(alloc))?;
     Ok(whole)
 }
 
-// A subcommand more, where there was memory for it. (Its Result comes in, so that a caller owns nothing where it leaves.)
+// A subcommand more, if there was memory for it. (Its Result comes in, so that a caller owns
+// nothing where it leaves.)
 fn add<'a>(
     command: Command<'a>,
     subcommand: Result<Command<'a>, AllocError>,
@@ -67,8 +70,9 @@ fn get<'a>(alloc: Global) -> Result<Command<'a>, AllocError>
 {
     let bare = named(alloc, "get", help::GET, help::VALUE);
     let first = bare.arg(flag(alloc, "text", help::GET_TEXT))?;
-    let placed = add_place(alloc, first)?;
-    let whole = placed.arg(key(alloc))?;
+    let second = first.arg(flag(alloc, "raw", help::RAW))?;
+    let placed = add_place(alloc, second)?;
+    let whole = placed.arg(keys(alloc))?;
     Ok(whole)
 }
 
@@ -77,22 +81,18 @@ fn scan<'a>(alloc: Global) -> Result<Command<'a>, AllocError>
 {
     let bare = named(alloc, "scan", help::SCAN, help::PAIRS);
     let ranged = add_range(alloc, bare)?;
-    let styled = add_style(alloc, ranged)?;
+    let counted = ranged.arg(flag(alloc, "count", help::COUNT))?;
+    let styled = add_style(alloc, counted)?;
     let whole = add_place(alloc, styled)?;
     Ok(whole)
 }
 
-// A subcommand that takes a folder, and the order of its keys.
-fn reading<'a>(
-    alloc: Global,
-    name: &'a str,
-    about: &'a str,
-    after: &'a str,
-) -> Result<Command<'a>, AllocError>
-    ensures { IfOk result (λ command. IsCommand command (reading_app name.entry.now)) }
+fn export<'a>(alloc: Global) -> Result<Command<'a>, AllocError>
+    ensures { IfOk result (λ command. IsCommand command export_app) }
 {
-    let bare = named(alloc, name, about, after);
-    let whole = add_place(alloc, bare)?;
+    let bare = named(alloc, "export", help::EXPORT, help::PUTS);
+    let bounded = add_bounds(alloc, bare)?;
+    let whole = add_place(alloc, bounded)?;
     Ok(whole)
 }
 
@@ -141,7 +141,8 @@ fn import<'a>(alloc: Global) -> Result<Command<'a>, AllocError>
     let bare = named(alloc, "import", help::IMPORT, help::OPERATIONS);
     let first = bare.arg(batch(alloc))?;
     let second = first.arg(flag(alloc, "sync", help::SYNC))?;
-    let numbered = add_options(alloc, second)?;
+    let third = second.arg(flag(alloc, "create", help::CREATE))?;
+    let numbered = add_options(alloc, third)?;
     let whole = add_place(alloc, numbered)?;
     Ok(whole)
 }
@@ -153,6 +154,27 @@ fn compact<'a>(alloc: Global) -> Result<Command<'a>, AllocError>
     let first = bare.arg(level(alloc))?;
     let numbered = add_options(alloc, first)?;
     let whole = add_place(alloc, numbered)?;
+    Ok(whole)
+}
+
+fn put<'a>(alloc: Global) -> Result<Command<'a>, AllocError>
+    ensures { IfOk result (λ command. IsCommand command put_app) }
+{
+    let bare = named(alloc, "put", help::PUT, help::ONE_PAIR);
+    let first = bare.arg(flag(alloc, "text", help::PUT_TEXT))?;
+    let placed = add_place(alloc, first)?;
+    let second = placed.arg(given(alloc, "KEY", help::KEY))?;
+    let whole = second.arg(given(alloc, "VALUE", help::NEW_VALUE))?;
+    Ok(whole)
+}
+
+fn del<'a>(alloc: Global) -> Result<Command<'a>, AllocError>
+    ensures { IfOk result (λ command. IsCommand command del_app) }
+{
+    let bare = named(alloc, "del", help::DEL, help::ONE_KEY);
+    let first = bare.arg(flag(alloc, "text", help::DEL_TEXT))?;
+    let placed = add_place(alloc, first)?;
+    let whole = placed.arg(given(alloc, "KEY", help::KEY))?;
     Ok(whole)
 }
 
@@ -185,15 +207,23 @@ fn add_options<'a>(alloc: Global, command: Command<'a>) -> Result<Command<'a>, A
     Ok(whole)
 }
 
-// Which keys of a scan.
-fn add_range<'a>(alloc: Global, command: Command<'a>) -> Result<Command<'a>, AllocError>
-    ensures { IfOk result (λ whole. (app : App) → IsCommand command.entry app → IsCommand whole (with_range app)) }
+// Which keys.
+fn add_bounds<'a>(alloc: Global, command: Command<'a>) -> Result<Command<'a>, AllocError>
+    ensures { IfOk result (λ whole. (app : App) → IsCommand command.entry app → IsCommand whole (with_bounds app)) }
 {
     let first = command.arg(bound(alloc, "from", help::FROM))?;
     let second = first.arg(bound(alloc, "to", help::TO))?;
-    let third = second.arg(bound(alloc, "prefix", help::PREFIX))?;
-    let fourth = third.arg(limit(alloc))?;
-    let whole = fourth.arg(flag(alloc, "reverse", help::BACKWARDS))?;
+    let whole = second.arg(bound(alloc, "prefix", help::PREFIX))?;
+    Ok(whole)
+}
+
+// Which keys of a scan, how many, and from which end.
+fn add_range<'a>(alloc: Global, command: Command<'a>) -> Result<Command<'a>, AllocError>
+    ensures { IfOk result (λ whole. (app : App) → IsCommand command.entry app → IsCommand whole (with_range app)) }
+{
+    let bounded = add_bounds(alloc, command)?;
+    let second = bounded.arg(limit(alloc))?;
+    let whole = second.arg(flag(alloc, "reverse", help::BACKWARDS))?;
     Ok(whole)
 }
 

@@ -8,25 +8,28 @@ ghost use Rattle.ikey.specs.Orders.{order_of};
 ghost use Rattle.tool.specs.Reports.{texts};
 ghost use Rattle.tool.specs.Statistics.{PrintsOverview, PrintsStats, head_line_of, head_words_of, head_object_of, level_line_of, level_words_of, level_object_of, due_words_of, due_member_of, log_length_line_of, log_length_words_of, log_length_object_of};
 
-use crate::inspect::print_refusal;
-use crate::status::DONE;
+use crate::status::{DONE, FAILED};
+use coding::DbError;
 use edits::Layout;
 use engine::Options;
 use ikey::KeyOrder;
 use recover::{LogLength, Overview};
-use script::{Fault, write_all};
+use script::{Fault, Listener, Refusal, write_all};
 use std::alloc::{AllocError, Global};
 use std::io::Write;
-use store::Store;
+use store::{Store, Trouble};
 use versions::{LevelUse, uses_of_levels};
 
-/// Prints what is known of a directory without reading its tables and logs, as words or as JSON objects, or its refusal, and answers
-/// the exit status. Of a directory without a database nothing is printed.
-pub fn stats<K: KeyOrder, S: Store, W: Write>(
+/// Prints what the MANIFEST says of a directory, without reading tables and logs, as words or as
+/// JSON objects, and returns the exit status. If the directory is refused, or has no database,
+/// nothing is printed, the listener is told, and the status is 1. `Fault` if a line couldn't be
+/// written.
+pub fn stats<K: KeyOrder, S: Store, W: Write, L: Listener>(
     alloc: Global,
     store: &mut S,
     writer: &mut W,
     json: bool,
+    listener: &mut L,
 ) -> Result<u8, Fault>
     ensures { IfOk result (PrintsStats (order_of K.name K.cmp) json (S.facts store.old) (S.facts store.new) (W.contents writer.old) (W.contents writer.new)) }
 {
@@ -35,9 +38,24 @@ pub fn stats<K: KeyOrder, S: Store, W: Write>(
             print_overview::<K, W>(alloc, writer, &overview, json)?;
             Ok(DONE)
         }
-        Ok(None) => Ok(DONE),
-        Err(error) => print_refusal(alloc, writer, error),
+        Ok(None) => {
+            tell(listener, DbError::NoDatabase, store.noted());
+            Ok(FAILED)
+        }
+        Err(error) => {
+            tell(listener, error, store.noted());
+            Ok(FAILED)
+        }
     }
+}
+
+fn tell<L: Listener>(listener: &mut L, error: DbError, noted: Trouble) {
+    let refusal = Refusal {
+        line: None,
+        error,
+        misread: None,
+    };
+    listener.refused(&refusal, noted);
 }
 
 // Prints it by the thresholds of LevelDB's defaults.
@@ -94,7 +112,7 @@ fn head_words(alloc: Global, comparator: &str, layout: &Layout) -> Result<String
     Ok(lines)
 }
 
-// A word, and a number right behind it.
+// A word, and a number right after it.
 fn push_number(alloc: Global, text: &mut String, word: &str, number: u64) -> Result<(), AllocError>
     ensures { OnOk result (string_bytes text.new ≡ string_bytes text.old ++ (word.now ++ decimal number)) }
 {

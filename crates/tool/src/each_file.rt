@@ -1,4 +1,4 @@
-// The files of a directory, each by itself: what is sound where something else is damaged.
+// The files of a directory, each by itself: what is sound though something else is damaged.
 
 ghost use Rattle.std.specs.Prelude.{◌≡◌, ◌++◌, IfOk, map};
 ghost use Rattle.ikey.specs.Orders.{order_of};
@@ -15,11 +15,12 @@ use recover::{Origin, Overview, file_entries, overview_of};
 use script::Fault;
 use std::alloc::{AllocError, Global};
 use std::io::Write;
-use store::Store;
+use store::{Store, Trouble};
 
-/// Prints the entries of each file that can be read whole, in this notation, tables by level and number and then live logs by number;
-/// of each other one it says on `faults` what is wrong with it, and the exit status tells. A directory whose MANIFEST is refused has
-/// the refusal printed alone. That two files contradict one another isn't looked for.
+/// Prints the entries of each file that can be read whole, in this notation, tables by level and
+/// number and then live logs by number, and returns the exit status. Of each other file it says on
+/// `faults` what is wrong with it. If the MANIFEST is refused, the refusal is printed alone. It
+/// doesn't look for two files that contradict one another. `Fault` if a line couldn't be written.
 pub fn dump_sound<K: KeyOrder, S: Store, W: Write, F: Write>(
     alloc: Global,
     store: &mut S,
@@ -79,7 +80,7 @@ fn print_sound<K: KeyOrder, S: Store, W: Write, F: Write>(
     Ok(status)
 }
 
-// Prints the entries of a file, or says why it isn't sound, which status 1 tells.
+// Prints the entries of a file, or says why it isn't sound, for which the status is 1.
 fn print_if_sound<K: KeyOrder, S: Store, W: Write, F: Write>(
     alloc: Global,
     store: &mut S,
@@ -104,32 +105,41 @@ fn print_if_sound<K: KeyOrder, S: Store, W: Write, F: Write>(
     }
 }
 
-/// Says of the first file of a directory that is refused by itself what is wrong with it, and where `all` is said of each; or that each is
-/// sound. Behind it stands where the refusal of the directory came from, by what the store had noted then.
+/// Says of the first file of a directory that is refused by itself what is wrong with it, and with
+/// `all` of each; or that each is sound. After it stands where the refusal of the directory came
+/// from, by what the store had noted then. Returns the first refusal that was said, and what was
+/// noted of it.
 pub fn say_refused<K: KeyOrder, S: Store, F: Write>(
     alloc: Global,
     store: &mut S,
     folder: &str,
     all: bool,
     faults: &mut F,
-) {
+) -> Option<(DbError, Trouble)> {
     let noted = store.noted();
     match read_origins::<K, S>(alloc, store) {
         Ok(Some(origins)) => {
-            if say_refused_files::<K, S, F>(alloc, store, &origins, folder, all, faults) {
-                return;
+            let first = say_refused_files::<K, S, F>(alloc, store, &origins, folder, all, faults);
+            if first.is_none() {
+                say_all_sound(faults, folder);
             }
-            say_noted(faults, folder, noted);
+            if first.is_none() || !all {
+                say_noted(faults, folder, noted);
+            }
+            first
         }
-        Ok(None) => {}
+        Ok(None) => None,
         Err(error) => {
+            let noted = store.noted();
             say_of_directory(faults, folder, error);
-            say_why(faults, folder, error, store.noted());
+            say_why(faults, folder, error, noted);
+            Some((error, noted))
         }
     }
 }
 
-// The files of a directory, without what else its MANIFEST tells of them: each is read beside another reading of that.
+// The files of a directory, without what else its MANIFEST says of them: each is read with another
+// reading of that.
 fn read_origins<K: KeyOrder, S: Store>(
     alloc: Global,
     store: &mut S,
@@ -140,7 +150,7 @@ fn read_origins<K: KeyOrder, S: Store>(
     }
 }
 
-// Whether what is wrong was said of each file that is refused, with where it comes from.
+// Says what is wrong with the first file that is refused, or with each, with where that comes from.
 fn say_refused_files<K: KeyOrder, S: Store, F: Write>(
     alloc: Global,
     store: &mut S,
@@ -148,20 +158,18 @@ fn say_refused_files<K: KeyOrder, S: Store, F: Write>(
     folder: &str,
     all: bool,
     faults: &mut F,
-) -> bool {
-    let mut all_sound = true;
+) -> Option<(DbError, Trouble)> {
+    let mut first = None;
     for origin in origins {
         if let Err(error) = file_entries::<K, S>(alloc, store, *origin) {
+            let noted = store.noted();
             say_of_file(faults, folder, *origin, error);
+            first = first.or(Some((error, noted)));
             if !all {
-                return false;
+                return first;
             }
-            say_why(faults, folder, error, store.noted());
-            all_sound = false;
+            say_why(faults, folder, error, noted);
         }
     }
-    if all_sound {
-        say_all_sound(faults, folder);
-    }
-    !all_sound
+    first
 }

@@ -11,7 +11,8 @@ use ikey::Entry;
 use recover::Origin;
 use std::alloc::{AllocError, Global};
 
-/// Puts the line of an entry behind the text, ended by a newline. Where there is no memory for the whole line, a beginning of it may be left.
+/// Appends the line of an entry to a text, with a newline. `Err` if memory ran out; a beginning of
+/// the line may be left then.
 pub fn push_entry(
     alloc: Global,
     text: &mut Vec<u8>,
@@ -140,7 +141,7 @@ fn push_put_object(text: &mut Vec<u8>, value: &[u8]) -> Result<(), AllocError>
     Ok(())
 }
 
-// Two numbers, each right behind a word.
+// Two numbers, each right after a word.
 fn push_numbers(
     alloc: Global,
     text: &mut Vec<u8>,
@@ -155,7 +156,7 @@ fn push_numbers(
     push_number(alloc, text, next_word, next)
 }
 
-// A word, and a number right behind it.
+// A word, and a number right after it.
 fn push_number(alloc: Global, text: &mut Vec<u8>, word: &str, number: u64) -> Result<(), AllocError>
     ensures { OnOk result (text.new.items ≡ text.old.items ++ (word.now ++ decimal number)) }
 {

@@ -11,6 +11,7 @@ ghost use Rattle.tool.specs.Inspecting.{Checks, Dumps, PrintsFile, PrintsFiles};
 use crate::entry_line::push_entry;
 use crate::report::{check_text, refusal_text};
 use crate::status::{DONE, FAILED};
+use crate::sums::Sums;
 use crate::task::Notation;
 use coding::DbError;
 use ikey::{Entry, KeyOrder};
@@ -23,18 +24,28 @@ use store::Store;
 // How many bytes of lines wait at most, so that they are written together.
 const OUTPUT_BYTES: usize = 65_536;
 
-/// Prints the report of a directory, or the refusal, and answers the exit status.
+/// Prints the report of a directory, or the refusal, and returns the exit status; `sums` has then
+/// what a good directory has in all. `Fault` if the report couldn't be written.
 pub fn check<K: KeyOrder, S: Store, W: Write>(
     alloc: Global,
     store: &mut S,
     writer: &mut W,
+    sums: &mut Sums,
 ) -> Result<u8, Fault>
     ensures { IfOk result (Checks (order_of K.name K.cmp) (S.facts store.old) (S.facts store.new) (W.contents writer.old) (W.contents writer.new)) }
 {
     let answer = recover::check::<K, S>(alloc, store);
+    *sums = sums_of(&answer);
     let text = check_text(alloc, &answer)?;
     write_all(writer, text.as_bytes())?;
     Ok(status_of(&answer))
+}
+
+fn sums_of(answer: &Result<Report, DbError>) -> Sums {
+    match answer {
+        Ok(report) => Sums::of(report),
+        Err(_) => Sums::none(),
+    }
 }
 
 fn status_of(answer: &Result<Report, DbError>) -> u8
@@ -46,9 +57,10 @@ fn status_of(answer: &Result<Report, DbError>) -> u8
     }
 }
 
-/// Prints the entries of a directory in this notation, tables by level and number and then live logs by number. A directory that is
-/// refused has its refusal printed alone; a refusal that is met later is printed after what is out. The entries of one
-/// file are in memory at a time.
+/// Prints the entries of a directory in this notation, tables by level and number and then live
+/// logs by number, and returns the exit status. A directory that is refused has its refusal printed
+/// alone; a refusal that is met later is printed after the lines. The entries of one file are in
+/// memory at a time. `Fault` if a line couldn't be written.
 pub fn dump<K: KeyOrder, S: Store, W: Write>(
     alloc: Global,
     store: &mut S,
@@ -99,7 +111,8 @@ fn print_files<K: KeyOrder, S: Store, W: Write>(
     Ok(DONE)
 }
 
-// Prints the entries of a file, or its refusal, with which the dump ends: then the status is answered.
+// Prints the entries of a file, or its refusal, with which the dump ends: the status is returned
+// then.
 fn print_file<K: KeyOrder, S: Store, W: Write>(
     alloc: Global,
     store: &mut S,
@@ -117,7 +130,7 @@ fn print_file<K: KeyOrder, S: Store, W: Write>(
     Ok(None)
 }
 
-/// Prints the entries of one file.
+/// Prints the entries of one file. `Fault` if a line couldn't be written.
 pub fn print_entries<W: Write>(
     alloc: Global,
     writer: &mut W,
@@ -135,7 +148,7 @@ pub fn print_entries<W: Write>(
     Ok(())
 }
 
-// Puts the line of an entry behind the text that waits, and writes that where it is long.
+// Appends the line of an entry to the text that waits, and writes that if it is long.
 fn print_entry<W: Write>(
     alloc: Global,
     writer: &mut W,
@@ -152,7 +165,7 @@ fn print_entry<W: Write>(
     Ok(())
 }
 
-/// Prints the line of a refusal.
+/// Prints the line of a refusal, and returns the exit status. `Fault` if it couldn't be written.
 pub fn print_refusal<W: Write>(alloc: Global, writer: &mut W, error: DbError) -> Result<u8, Fault>
     ensures written { OnOk result (Appends (W.contents writer.old) (W.contents writer.new) (check_text_of (Err error))) }
     ensures status { IfOk result (λ status. status ≡ 1) }

@@ -1,4 +1,5 @@
-//! What `ldbtool` does: the reading of its command line, and its tasks over a folder, with streams that are handed in.
+//! What `ldbtool` does: it reads the command line, and does the task over a folder, with streams
+//! that are handed in.
 #![tactic(auto)]
 
 mod arguments;
@@ -7,15 +8,20 @@ mod command_line;
 mod counts;
 mod each_file;
 mod entry_line;
+mod finding;
 mod help;
+mod hints;
 mod inspect;
 mod keys;
+mod line_counter;
 mod looking;
 mod program;
 mod progress;
+mod reasons;
 mod report;
 mod saying;
 mod status;
+mod sums;
 mod task;
 mod telling;
 mod why;
@@ -26,5 +32,7 @@ pub use each_file::dump_sound;
 pub use inspect::{check, dump};
 pub use program::{Terminals, start};
 pub use saying::refuse_words;
-pub use task::{Lookup, Notation, Numbers, OrderName, Pieces, Place, Search, Task, Turns};
+pub use task::{
+    Bounds, Lookup, Named, Notation, Numbers, OrderName, Pair, Pieces, Place, Search, Task, Turns,
+};
 pub use words::{Misuse, settings};

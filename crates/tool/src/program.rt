@@ -1,9 +1,8 @@
 // The program, over streams that are handed in.
 
-use crate::changing::{compact, import, run};
-use crate::looking::{
-    check_folder, dump_folder, dump_sound_files, export, get, scan, stats_folder,
-};
+use crate::changing::{compact, del, import, put, run};
+use crate::finding::{export, get, scan};
+use crate::looking::{check_folder, dump_folder, dump_sound_files, stats_folder};
 use crate::progress::Target;
 use crate::saying::{greet, greet_import, refuse};
 use crate::task::{OrderName, Task};
@@ -11,7 +10,7 @@ use crate::words::settings;
 use ikey::{Bytewise, KeyOrder, ReverseBytes};
 use std::io::{Read, Write};
 
-/// Which streams are a terminal, where somebody watches.
+/// Which streams are a terminal, so that somebody watches.
 #[derive(Clone, Copy, Debug, PartialEq, Eq)]
 pub struct Terminals {
     /// Standard input, at which a script is typed.
@@ -20,10 +19,11 @@ pub struct Terminals {
     pub faults: bool,
 }
 
-/// Does what the words ask for, of which the first is the program's name, and answers the exit status; `version` is what
-/// `--version` says behind that name. What has no place on `writer` is said on `faults`. Where somebody watches, a check, dump,
-/// import or compaction that takes longer than a second says on standard error how far it is, and lines that are typed are begun
-/// with a word on them.
+/// Does what the words ask for, of which the first is the program's name, and returns the exit
+/// status; `version` is what `--version` says after that name. What has no place on `writer` is
+/// said on `faults`. If somebody watches, a check, dump, import or compaction that takes longer
+/// than a second says there how far it is, a check ends with sums, and typed lines begin with a
+/// word on them.
 pub fn start<R: Read + Drop, W: Write, F: Write>(
     rt: &HostRuntime,
     words: &[String],
@@ -37,7 +37,7 @@ pub fn start<R: Read + Drop, W: Write, F: Write>(
         Ok(task) => task,
         Err(misuse) => return refuse(rt.alloc(), &misuse, writer, faults),
     };
-    // The one place where an order is chosen.
+    // An order is chosen here alone.
     match task.place().order {
         OrderName::Bytes => {
             perform::<Bytewise, R, W, F>(rt, &task, terminals, reader, writer, faults)
@@ -64,9 +64,9 @@ fn perform<K: KeyOrder, R: Read + Drop, W: Write, F: Write>(
     };
     let typed = terminals.input && terminals.faults;
     match task {
-        Task::Get(_, lookup) => get::<K, W, F>(rt, folder, lookup, writer, faults),
+        Task::Get(_, lookup) => get::<K, R, W, F>(rt, folder, lookup, reader, writer, faults),
         Task::Scan(_, search) => scan::<K, W, F>(rt, folder, search, writer, faults),
-        Task::Export(_) => export::<K, W, F>(rt, folder, writer, faults),
+        Task::Export(_, bounds) => export::<K, W, F>(rt, folder, bounds, writer, faults),
         Task::Check(_, keep_going) => {
             check_folder::<K, W, F>(rt, target, *keep_going, writer, faults)
         }
@@ -92,5 +92,7 @@ fn perform<K: KeyOrder, R: Read + Drop, W: Write, F: Write>(
         Task::Compact(_, numbers, level) => {
             compact::<K, W, F>(rt, target, *numbers, *level, writer, faults)
         }
+        Task::Put(_, pair) => put::<K, F>(rt, folder, pair, faults),
+        Task::Del(_, named) => del::<K, F>(rt, folder, named, faults),
     }
 }

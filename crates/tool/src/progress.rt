@@ -12,8 +12,8 @@ pub struct Target<'a> {
     pub watched: bool,
 }
 
-/// The files of a store. With a meter, standard error says how much was read and written: after a second, and then whenever as
-/// much time again has passed. Each call is the store's own.
+/// The files of a store. With a meter, standard error says how much was read and written: after a
+/// second, and then each time that as much time again has passed. Each call is the store's own.
 #[derive(Drop)]
 pub struct Watched<S> {
     inner: S,
@@ -29,14 +29,15 @@ pub struct Meter {
     due: u64,
     read: u64,
     written: u64,
-    // of how many bytes, where the task is to read these
+    // of how many bytes, if the task is to read these
     total: Option<u64>,
 }
 
 const MEGABYTE: u64 = 1_000_000;
 
 impl Meter {
-    /// One that has read nothing yet, of so many bytes where they are to be read; nothing where there is no clock.
+    /// Returns one that has read nothing yet, of so many bytes if they are to be read; `None` if
+    /// there is no clock.
     pub fn new(rt: &HostRuntime, total: Option<u64>) -> Option<Meter> {
         let Ok(started) = Instant::now(rt) else {
             return None;
@@ -64,7 +65,7 @@ impl Meter {
         self.say_if_due();
     }
 
-    // Says how far that is, where a line is due.
+    // Says how far that is, if a line is due.
     fn say_if_due(&mut self) {
         let Ok(passed) = self.started.elapsed(&self.rt) else {
             return;
@@ -97,13 +98,13 @@ impl Meter {
 }
 
 impl<S: Store> Watched<S> {
-    /// These files, with what is said of them, if anything is.
+    /// Returns these files, with a meter or without.
     pub fn over(inner: S, meter: Option<Meter>) -> Self {
         Watched { inner, meter }
     }
 }
 
-/// How many bytes the files of a store have together: 0 where that can't be had.
+/// Returns how many bytes the files of a store have together: 0 if they can't be listed.
 pub fn bytes_of<S: Store>(alloc: Global, store: &mut S) -> u64 {
     let Ok(names) = store.list(alloc) else {
         return 0;

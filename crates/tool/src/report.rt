@@ -10,7 +10,7 @@ use recover::{LogSummary, Report, TableSummary};
 use script::answer_line;
 use std::alloc::{AllocError, Global};
 
-/// What a check prints: the report of a directory, or the refusal.
+/// Returns what a check prints: the report of a directory, or the refusal. `Err` if memory ran out.
 pub fn check_text(alloc: Global, answer: &Result<Report, DbError>) -> Result<String, AllocError>
     ensures { IfOk result (λ text. string_bytes text ≡ check_text_of answer.now) }
 {
@@ -20,7 +20,7 @@ pub fn check_text(alloc: Global, answer: &Result<Report, DbError>) -> Result<Str
     }
 }
 
-/// The line of a refusal.
+/// Returns the line of a refusal. `Err` if memory ran out.
 pub fn refusal_text(alloc: Global, error: DbError) -> Result<String, AllocError>
     ensures { IfOk result (λ text. string_bytes text ≡ check_text_of (Err error)) }
 {

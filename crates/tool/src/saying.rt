@@ -2,29 +2,46 @@
 
 ghost use Rattle.std.specs.Prelude.{◌≡◌, ◌⊎◌};
 
+use crate::reasons::{Reason, wanted_words};
 use crate::status::{DONE, FAILED, MISUSED};
+use crate::sums::Sums;
 use crate::words::Misuse;
+use browse::Form;
 use clap::error::ErrorKind;
-use coding::{Damage, DbError, Feature, FileKind};
+use coding::DbError;
 use recover::Origin;
-use script::{Fault, Misread, Wanted};
+use script::{Fault, Misread};
 use std::alloc::Global;
-use std::fmt;
 use std::io::{self, Write};
+use std::{fmt, fs};
 use store::StoreError;
 
-/// A text that comes from outside, on one line: bytes outside of ' '..'~' are shown as `\xNN`, so that no name can steer a
-/// terminal.
+/// Shows a text that comes from outside on one line: bytes outside ' ' to '~' are `\xNN`, so that
+/// no name can steer a terminal.
 #[derive(Clone, Copy)]
 pub struct Escaped<'a>(pub &'a str);
 
 impl fmt::Display for Escaped<'_> {
     fn fmt<W: fmt::Write>(&self, f: &mut fmt::Formatter<W>) -> fmt::Result {
-        for byte in self.0.as_bytes() {
-            write_escaped(f, *byte)?;
-        }
-        Ok(())
+        write_all_escaped(f, self.0.as_bytes())
     }
+}
+
+/// Shows bytes that come from outside in the same way.
+#[derive(Clone, Copy)]
+pub struct EscapedBytes<'a>(pub &'a [u8]);
+
+impl fmt::Display for EscapedBytes<'_> {
+    fn fmt<W: fmt::Write>(&self, f: &mut fmt::Formatter<W>) -> fmt::Result {
+        write_all_escaped(f, self.0)
+    }
+}
+
+fn write_all_escaped<W: fmt::Write>(f: &mut fmt::Formatter<W>, bytes: &[u8]) -> fmt::Result {
+    for byte in bytes {
+        write_escaped(f, *byte)?;
+    }
+    Ok(())
 }
 
 fn write_escaped<W: fmt::Write>(f: &mut fmt::Formatter<W>, byte: u8) -> fmt::Result {
@@ -34,7 +51,7 @@ fn write_escaped<W: fmt::Write>(f: &mut fmt::Formatter<W>, byte: u8) -> fmt::Res
     f.write_char(char::from(byte))
 }
 
-/// Says why the command line was refused, or the help that was asked for.
+/// Says why the command line was refused, or the help that was asked for, and returns the status.
 pub fn refuse<W: Write, F: Write>(
     alloc: Global,
     misuse: &Misuse,
@@ -44,6 +61,7 @@ pub fn refuse<W: Write, F: Write>(
     match misuse {
         Misuse::Words(error) => refuse_by_clap(alloc, error, writer, faults),
         Misuse::Wanted(wanted) => want(faults, wanted),
+        Misuse::Memory => stop(faults, &Fault::Memory),
     }
 }
 
@@ -76,7 +94,7 @@ fn say_lines<F: Write>(faults: &mut F, text: &str) {
     }
 }
 
-/// Says what is wanted in the place of a word of the command line, and answers the status for it.
+/// Says what is wanted instead of a word of the command line, and returns the status for it.
 pub fn want<F: Write>(faults: &mut F, wanted: &str) -> u8
     ensures { result ≡ 2 }
 {
@@ -84,28 +102,82 @@ pub fn want<F: Write>(faults: &mut F, wanted: &str) -> u8
     MISUSED
 }
 
-/// Says that a key is wanted where this option, or this place, has another word, and answers the status for it.
-pub fn want_key<F: Write>(faults: &mut F, name: &str) -> u8
+/// Says that this option or place has no byte string of this form, and returns the status for it.
+pub fn want_key<F: Write>(faults: &mut F, name: &str, form: Form) -> u8
     ensures { result ≡ 2 }
 {
-    let _ = writeln!(
-        faults,
-        "ldbtool: {name}: a key in hexadecimal is wanted, two digits a byte, or - for none (with --text: as it is)"
-    );
+    let wanted = match form {
+        Form::Hex => {
+            "bytes in hexadecimal are wanted, two digits each, or - for none (with --text: text)"
+        }
+        Form::Text =>
+            "text is wanted, in which \\\\ is a backslash and \\xNN the byte of two digits",
+    };
+    let _ = writeln!(faults, "ldbtool: {name}: {wanted}");
     MISUSED
 }
 
-/// Says why a folder can't be opened, and answers the status for it.
-pub fn folder_fault<F: Write>(faults: &mut F, folder: &str, error: StoreError) -> u8
+/// Says that a line of standard input is no key of this form, and returns the status for it.
+pub fn want_key_line<F: Write>(faults: &mut F, line: u64, form: Form) -> u8
+    ensures { result ≡ 1 }
+{
+    let wanted = match form {
+        Form::Hex => "a key in hexadecimal is wanted, two digits a byte, or - for the empty one",
+        Form::Text => {
+            "a key as text is wanted, in which \\\\ is a backslash and \\xNN the byte of two digits"
+        }
+    };
+    let _ = writeln!(faults, "ldbtool: line {line}: {wanted}");
+    FAILED
+}
+
+/// Says why a folder can't be opened, and returns the status for it.
+pub fn folder_fault<F: Write>(
+    rt: &HostRuntime,
+    faults: &mut F,
+    folder: &str,
+    error: StoreError,
+) -> u8
     ensures { result ≡ 1 }
 {
     let why = match error {
         StoreError::Missing => "there is no such folder",
-        StoreError::Device => "it isn't a folder, or this user may not open it",
+        StoreError::Device => why_not_open(rt, folder),
         StoreError::Memory => "out of memory",
     };
     let _ = writeln!(faults, "ldbtool: {}: {why}", Escaped(folder));
     FAILED
+}
+
+/// Says why a folder can't be made, and returns the status for it.
+pub fn no_folder_made<F: Write>(faults: &mut F, folder: &str, error: &io::Error) -> u8
+    ensures { result ≡ 1 }
+{
+    let folder = Escaped(folder);
+    let _ = writeln!(
+        faults,
+        "ldbtool: {folder}: the folder can't be made: {error}"
+    );
+    FAILED
+}
+
+fn why_not_open(rt: &HostRuntime, folder: &str) -> &'static str {
+    match fs::metadata(rt, folder) {
+        Ok(found) => {
+            if found.is_dir() {
+                "this user may not open the folder"
+            } else {
+                "it isn't a folder"
+            }
+        }
+        Err(error) => {
+            if error.kind() == io::ErrorKind::PermissionDenied {
+                "this user may not look into the folder above it"
+            } else {
+                "it isn't a folder"
+            }
+        }
+    }
 }
 
 /// Says that a folder without a database may not be the one that was meant.
@@ -117,10 +189,26 @@ pub fn say_no_current<F: Write>(faults: &mut F, folder: &str) {
     );
 }
 
+/// Says what a good directory has in all.
+pub fn say_sums<F: Write>(faults: &mut F, folder: &str, sums: Sums) {
+    let folder = Escaped(folder);
+    let Sums {
+        tables,
+        entries,
+        logs,
+        batches,
+        ..
+    } = sums;
+    let _ = writeln!(
+        faults,
+        "ldbtool: {folder}: {tables} tables with {entries} entries, {logs} logs with {batches} batches"
+    );
+}
+
 /// Says what is wrong with a file of a folder.
 pub fn say_of_file<F: Write>(faults: &mut F, folder: &str, origin: Origin, error: DbError) {
     let folder = Escaped(folder);
-    let why = Why(error);
+    let why = Reason(error);
     let _ = match origin {
         Origin::Table(level, number) => {
             writeln!(faults, "ldbtool: {folder}: table {level} {number}: {why}")
@@ -129,14 +217,14 @@ pub fn say_of_file<F: Write>(faults: &mut F, folder: &str, origin: Origin, error
     };
 }
 
-/// Says what is wrong with `CURRENT`, the MANIFEST that it names or the names of the files.
+/// Says what is wrong with a directory as a whole.
 pub fn say_of_directory<F: Write>(faults: &mut F, folder: &str, error: DbError) {
-    let _ = writeln!(faults, "ldbtool: {}: {}", Escaped(folder), Why(error));
+    let _ = writeln!(faults, "ldbtool: {}: {}", Escaped(folder), Reason(error));
 }
 
 /// Says why a line of a script was refused.
 pub fn say_of_line<F: Write>(faults: &mut F, line: u64, error: DbError) {
-    let _ = writeln!(faults, "ldbtool: line {line}: {}", Why(error));
+    let _ = writeln!(faults, "ldbtool: line {line}: {}", Reason(error));
 }
 
 /// Says what is wrong with a line that says no command.
@@ -162,90 +250,30 @@ pub fn say_how_to_see<F: Write>(faults: &mut F, folder: &str) {
 pub fn say_all_sound<F: Write>(faults: &mut F, folder: &str) {
     let _ = writeln!(
         faults,
-        "ldbtool: {}: each file is sound by itself: they contradict one another, or what was refused has passed",
+        "ldbtool: {}: each file is sound by itself: they contradict one another, or the cause has passed",
         Escaped(folder)
     );
 }
 
-// A refusal, with what is wrong.
-#[derive(Clone, Copy)]
-struct Why(DbError);
-
-impl fmt::Display for Why {
-    fn fmt<W: fmt::Write>(&self, f: &mut fmt::Formatter<W>) -> fmt::Result {
-        write!(f, "refused {} {}", self.0.number(), self.0.name())?;
-        match self.0 {
-            DbError::Corrupt(kind, damage) => {
-                write!(f, ", {}: {}", kind_words(kind), damage_words(damage))
-            }
-            DbError::Unsupported(feature) => write!(f, ": {}", feature_words(feature)),
-            error => write!(f, ": {error}"),
-        }
-    }
-}
-
-fn kind_words(kind: FileKind) -> &'static str {
-    match kind {
-        FileKind::Current => "CURRENT",
-        FileKind::Manifest => "the MANIFEST",
-        FileKind::Log => "a log",
-        FileKind::Table => "a table",
-        FileKind::Directory => "the directory",
-    }
-}
-
-fn damage_words(damage: Damage) -> &'static str {
-    match damage {
-        Damage::Length => "it ends too soon, or something in it is longer than there is room",
-        Damage::Checksum => "a checksum isn't that of its bytes",
-        Damage::Kind => "a tag, a kind or a type that there is none of",
-        Damage::Number => "a number that isn't in its shortest form, or out of its range",
-        Damage::Order => "parts in another order than they have to have",
-        Damage::Padding => "other bytes where zeros belong",
-        Damage::Missing => "a file or a field that has to be there is missing",
-    }
-}
-
-fn wanted_words(wanted: Wanted) -> &'static str {
-    match wanted {
-        Wanted::Command => "the name of a command is wanted",
-        Wanted::Operation => "put or del is wanted",
-        Wanted::Bytes => "two hexadecimal digits a byte are wanted, or - for none",
-        Wanted::Number => "a number below 2^64 is wanted",
-        Wanted::SmallNumber => "a number below 2^32 is wanted",
-        Wanted::Level => "all or the number of a level is wanted",
-        Wanted::Mode => "new, any or nothing more is wanted",
-        Wanted::End => "nothing more is wanted",
-    }
-}
-
-fn feature_words(feature: Feature) -> &'static str {
-    match feature {
-        Feature::BlockType => "a compressed block",
-        Feature::Comparator => "another order of keys",
-        Feature::BlockSize => "a block of more than 2^30 bytes",
-        Feature::TableNumber => "a table of number 2^62 or more",
-        Feature::Tables => "tables",
-    }
-}
-
-/// Says to a person who is about to type a script how its lines look.
+/// Says to a person who is about to type a script what its lines are.
 pub fn greet<F: Write>(faults: &mut F) {
     let _ = writeln!(
         faults,
-        "ldbtool: begin with `open` or `open new`; keys and values are hexadecimal, Ctrl-D ends; `ldbtool help run` tells the lines"
+        "ldbtool: begin with `open` or `open new`; keys and values are hexadecimal; Ctrl-D ends; \
+         `ldbtool help run` lists the commands"
     );
 }
 
-/// The same of the lines of an import.
+/// Says to a person who is about to type an import what its lines are.
 pub fn greet_import<F: Write>(faults: &mut F) {
     let _ = writeln!(
         faults,
-        "ldbtool: lines are `put K V` and `del K`; keys and values are hexadecimal, Ctrl-D ends"
+        "ldbtool: lines are `put K V` and `del K`; keys and values are hexadecimal; Ctrl-D ends"
     );
 }
 
-/// Says why the words of the command line can't be had, and answers the status for it. The kit reads them as UTF-8.
+/// Says why the words of the command line can't be read, and returns the status for it. The kit
+/// reads them as UTF-8.
 pub fn refuse_words<F: Write>(faults: &mut F, error: &io::Error) -> u8
     ensures { (result ≡ 1) ⊎ (result ≡ 2) }
 {
@@ -255,7 +283,7 @@ pub fn refuse_words<F: Write>(faults: &mut F, error: &io::Error) -> u8
     want(faults, "a word of the command line isn't UTF-8")
 }
 
-/// The status of a task that was done, or stopped by a fault, which is said.
+/// Returns the status of a task that was done, or stopped by a fault, which is said.
 pub fn status_of<F: Write>(done: Result<u8, Fault>, faults: &mut F) -> u8 {
     match done {
         Ok(status) => status,
@@ -263,7 +291,7 @@ pub fn status_of<F: Write>(done: Result<u8, Fault>, faults: &mut F) -> u8 {
     }
 }
 
-/// The status of a task that was stopped by this.
+/// Says what stopped a task, and returns the status for it.
 pub fn stop<F: Write>(faults: &mut F, fault: &Fault) -> u8
     ensures { result ≡ 1 }
 {
@@ -273,7 +301,7 @@ pub fn stop<F: Write>(faults: &mut F, fault: &Fault) -> u8
     report_fault(faults, fault)
 }
 
-// Whether whoever reads the output has gone, as `head` does once it has enough: this is no news to the user.
+// Whether the reader of the output has gone, as `head` does once it has enough: the user knows.
 fn is_closed_pipe(fault: &Fault) -> bool {
     match fault {
         Fault::Write(error) => error.kind() == io::ErrorKind::BrokenPipe,
@@ -282,7 +310,7 @@ fn is_closed_pipe(fault: &Fault) -> bool {
     }
 }
 
-// Says a fault that has no answer line, and answers the status for it.
+// Says a fault that has no answer line, and returns the status for it.
 fn report_fault<F: Write, D: fmt::Display>(faults: &mut F, fault: &D) -> u8
     ensures { result ≡ 1 }
 {

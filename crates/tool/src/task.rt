@@ -8,19 +8,20 @@ use browse::{Form, Style};
 use engine::Options;
 
 /// What is to be done, and over which database.
-#[derive(Clone, Copy, Debug, PartialEq, Eq)]
+#[derive(Debug, Drop)]
 pub enum Task<'a> {
-    /// Print the value of a key.
+    /// Print the values of keys.
     Get(Place<'a>, Lookup<'a>),
-    /// Print the pairs, or their keys.
+    /// Print the pairs, or their keys, or how many there are.
     Scan(Place<'a>, Search<'a>),
-    /// Print the pairs as the lines that `Import` reads.
-    Export(Place<'a>),
-    /// Check the directory, and where it is refused go on to each file or not.
+    /// Print the pairs within these bounds as the lines that `Import` reads.
+    Export(Place<'a>, Bounds<'a>),
+    /// Check the directory; if it is refused, go on to each file or not.
     Check(Place<'a>, bool),
-    /// Print what is known of the directory by its MANIFEST, as JSON objects or as words.
+    /// Print what the MANIFEST says of the directory, as JSON objects or as words.
     Stats(Place<'a>, bool),
-    /// Print the entries of the directory, in this notation: where it is refused those of the files that are sound, or none.
+    /// Print the entries of the directory in this notation; if it is refused, those of the files
+    /// that are sound, or none.
     Dump(Place<'a>, Notation, bool),
     /// Run a script over a database with these options.
     Run(Place<'a>, Numbers, Turns),
@@ -28,6 +29,10 @@ pub enum Task<'a> {
     Import(Place<'a>, Numbers, Pieces),
     /// Merge the tables of this level into the next, or all of them.
     Compact(Place<'a>, Numbers, Option<u64>),
+    /// Write one pair.
+    Put(Place<'a>, Pair<'a>),
+    /// Delete one key.
+    Del(Place<'a>, Named<'a>),
 }
 
 /// Which database: the order of its keys, and its folder.
@@ -55,37 +60,64 @@ pub enum Notation {
     Json,
 }
 
-/// A key as a word that isn't read yet, and how it and its value are spelt.
-#[derive(Clone, Copy, Debug, PartialEq, Eq)]
+/// Keys as words that aren't read yet, how they and their values are spelled, and whether a value
+/// is written as its bytes alone.
+#[derive(Debug, Drop)]
 pub struct Lookup<'a> {
+    pub keys: Vec<&'a str>,
+    pub form: Form,
+    pub raw: bool,
+}
+
+/// Which keys, by bounds as words that aren't read yet.
+#[derive(Clone, Copy, Debug, PartialEq, Eq)]
+pub struct Bounds<'a> {
+    pub from: Option<&'a str>,
+    pub to: Option<&'a str>,
+    pub prefix: Option<&'a str>,
+}
+
+/// Which pairs, at most how many, from the last one backwards or not, whether they are counted, and
+/// how they are printed, which is how the words are spelled too.
+#[derive(Clone, Copy, Debug, PartialEq, Eq)]
+pub struct Search<'a> {
+    pub bounds: Bounds<'a>,
+    pub limit: Option<u64>,
+    pub reverse: bool,
+    pub count: bool,
+    pub style: Style,
+}
+
+/// A key and a value as words that aren't read yet, and how they are spelled.
+#[derive(Clone, Copy, Debug, PartialEq, Eq)]
+pub struct Pair<'a> {
+    pub key: &'a str,
+    pub value: &'a str,
+    pub form: Form,
+}
+
+/// A key as a word that isn't read yet, and how it is spelled.
+#[derive(Clone, Copy, Debug, PartialEq, Eq)]
+pub struct Named<'a> {
     pub key: &'a str,
     pub form: Form,
 }
 
-/// Which pairs, with keys as words that aren't read yet; at most how many; from the last one on backwards or not; and how they
-/// are printed, which is how the words are spelt too.
-#[derive(Clone, Copy, Debug, PartialEq, Eq)]
-pub struct Search<'a> {
-    pub from: Option<&'a str>,
-    pub to: Option<&'a str>,
-    pub prefix: Option<&'a str>,
-    pub limit: Option<u64>,
-    pub reverse: bool,
-    pub style: Style,
-}
-
-/// How a script is run: whether work is done behind each write, and whether the first refusal ends it.
+/// How a script is run: whether work is done after each write, and whether the first refusal ends
+/// it.
 #[derive(Clone, Copy, Debug, PartialEq, Eq)]
 pub struct Turns {
     pub works: bool,
     pub strict: bool,
 }
 
-/// How an import is cut: how many operations a batch has, and whether each one is synced.
+/// How an import goes: how many operations a batch has, whether each one is synced, and whether the
+/// folder is made if it isn't there.
 #[derive(Clone, Copy, Debug, PartialEq, Eq)]
 pub struct Pieces {
     pub batch: u64,
     pub sync: bool,
+    pub create: bool,
 }
 
 /// The options of a database, as the command line has them.
@@ -100,7 +132,7 @@ pub struct Numbers {
 }
 
 impl Numbers {
-    /// The same, for the database. `None` where a number is outside its range.
+    /// Returns the same for the database. `None` if a number is outside its range.
     pub fn options(&self) -> Option<Options>
         ensures ranges { IfSome result (λ options. AreInRange (values_of self.now)) }
         ensures kept { IfSome result (λ options. options ≡ values_of self.now) }
@@ -117,18 +149,20 @@ impl Numbers {
 }
 
 impl<'a> Task<'a> {
-    /// The database that it is about.
+    /// Returns the database that it is about.
     pub fn place(&self) -> Place<'a> {
         match self {
             Task::Get(place, _) => *place,
             Task::Scan(place, _) => *place,
-            Task::Export(place) => *place,
+            Task::Export(place, _) => *place,
             Task::Check(place, _) => *place,
             Task::Stats(place, _) => *place,
             Task::Dump(place, _, _) => *place,
             Task::Run(place, _, _) => *place,
             Task::Import(place, _, _) => *place,
             Task::Compact(place, _, _) => *place,
+            Task::Put(place, _) => *place,
+            Task::Del(place, _) => *place,
         }
     }
 }

@@ -1,12 +1,13 @@
-// Where a refusal comes from, on standard error: the file, the place in it, what was found and what was wanted, by the note that the store
-// took beside it.
+// Where a refusal comes from, on standard error: the file, the place in it, what was found and what
+// was wanted, by the note that the store took beside it.
 
 use crate::saying::Escaped;
 use coding::{Damage, DbError, Feature, FileKind};
 use std::io::Write;
 use store::{Trouble, Why};
 
-/// Says where a refusal comes from, if the last note is of its kind: an older one is of no use.
+/// Says where a refusal comes from, if the last note is of its kind; an older one says nothing of
+/// it.
 pub fn say_why<F: Write>(faults: &mut F, folder: &str, error: DbError, noted: Trouble) {
     if error == DbError::Corrupt(FileKind::Directory, Damage::Missing) {
         let folder = Escaped(before_slash(folder));
@@ -32,6 +33,13 @@ pub fn say_noted<F: Write>(faults: &mut F, folder: &str, noted: Trouble) {
     }
     let folder = Escaped(before_slash(folder));
     let _ = writeln!(faults, "ldbtool: {folder}/{}: {noted}", noted.name);
+    if noted.why == Why::Lock {
+        let _ = writeln!(
+            faults,
+            "ldbtool: {folder}/LOCK: must be a plain file, no link and with no second name, \
+             and no folder or link may be named LOCK-wal"
+        );
+    }
 }
 
 // A folder without the slash at its end.
@@ -85,7 +93,8 @@ fn feature_of(why: Why) -> Option<Feature> {
     }
 }
 
-// Whether the file is of this kind. (What is said of a table may be found by the MANIFEST, or by a log.)
+// Whether the file is of this kind. (What is said of a table may be found by the MANIFEST, or by a
+// log.)
 fn is_of_kind(noted: Trouble, kind: FileKind) -> bool {
     let name = noted.name.as_bytes();
     match kind {

@@ -1,24 +1,29 @@
 // What the words of the command line ask for.
 
-ghost use Rattle.std.specs.Prelude.{◌≡◌, map, option_map, IfOk, IfSome, Some, None, string_bytes, codes};
+ghost use Rattle.std.specs.Prelude.{◌≡◌, ◌≤◌, true, length, map, option_map, IfOk, IfSome, Some, None};
+ghost use Rattle.std.specs.Prelude.{string_bytes, codes};
 ghost use Rattle.clap.specs.Words.{app_of, found_of, first_of, is_simple, rows_of, subcommand_of, subcommand_rows_of};
 ghost use Rattle.browse.specs.declared.style.Style.TheVariants as style;
 ghost use Rattle.tool.specs.CommandLine.{the_app};
-ghost use Rattle.tool.specs.Tasks.{IsTask, AsksForIn, ArePieces, AreTurns, HaveNumbers, IsFlag, IsLookup, IsNotation, IsNumberOf, IsOptional, IsOrderOf, IsPlace, IsSearch, IsStyle, IsWord, form_of, notation_of, style_of, work_word};
+ghost use Rattle.tool.specs.Tasks.{IsTask, AsksForIn, AreBounds, ArePieces, AreTurns, AreWords, HaveNumbers, IsFlag, IsLookup, IsNamed, IsNotation, IsNumberOf, IsOptional, IsOrderOf, IsPair, IsPlace, IsSearch, IsStyle, IsWord, form_of, notation_of, style_of, work_word};
 
 use crate::command_line::command;
-use crate::task::{Lookup, Notation, Numbers, OrderName, Pieces, Place, Search, Task, Turns};
+use crate::task::{
+    Bounds, Lookup, Named, Notation, Numbers, OrderName, Pair, Pieces, Place, Search, Task, Turns,
+};
 use browse::{Form, Style};
 use clap::{ArgMatches, Error};
-use std::alloc::Global;
+use std::alloc::{AllocError, Global};
 
 /// Why the words ask for nothing that can be done.
 #[derive(Debug, Drop)]
 pub enum Misuse {
-    /// What `clap` says of them, also where help is asked for.
+    /// What `clap` says of them, also if help is asked for.
     Words(Error),
-    /// What is wanted in the place of one of them.
+    /// What is wanted instead of one of them.
     Wanted(&'static str),
+    /// There was no memory for them.
+    Memory,
 }
 
 impl From<Error> for Misuse {
@@ -27,7 +32,8 @@ impl From<Error> for Misuse {
     }
 }
 
-/// Reads the command line, whose first word is the program's name; `--version` says this one.
+/// Reads the command line, whose first word is the program's name, and returns what it asks for;
+/// `--version` says this one. `Misuse` says why it asks for nothing.
 pub fn settings<'a>(
     alloc: Global,
     words: &'a [String],
@@ -36,9 +42,9 @@ pub fn settings<'a>(
     ensures { IfOk result (λ task. IsTask (map string_bytes words.now) task) }
 {
     let matches = matches(alloc, words, version)?;
-    match read_task(&matches) {
+    match read_task(alloc, &matches) {
         Some(task) => Ok(task),
-        None => Err(Misuse::Wanted(wanted(&matches))),
+        None => Err(misuse_of(&matches)),
     }
 }
 
@@ -55,19 +61,19 @@ fn matches<'a>(
 }
 
 // What was found. A subcommand, its folder and what has a default are always there.
-fn read_task<'a>(matches: &ArgMatches<'a>) -> Option<Task<'a>>
+fn read_task<'a>(alloc: Global, matches: &ArgMatches<'a>) -> Option<Task<'a>>
     ensures { IfSome result (AsksForIn (subcommand_rows_of matches.now)) }
 {
     let (name, found) = matches.subcommand()?;
     let place = read_place(found)?;
     if name == "get" {
-        return Some(Task::Get(place, read_lookup(found)?));
+        return Some(Task::Get(place, read_lookup(alloc, found)?));
     }
     if name == "scan" {
         return Some(Task::Scan(place, read_search(found, place.order)?));
     }
     if name == "export" {
-        return Some(Task::Export(place));
+        return Some(Task::Export(place, read_bounds(found, place.order)?));
     }
     if name == "check" {
         return Some(Task::Check(place, read_flag(found, "keep-going")?));
@@ -78,6 +84,12 @@ fn read_task<'a>(matches: &ArgMatches<'a>) -> Option<Task<'a>>
     if name == "dump" {
         let notation = read_notation(found)?;
         return Some(Task::Dump(place, notation, read_flag(found, "keep-going")?));
+    }
+    if name == "put" {
+        return Some(Task::Put(place, read_pair(found)?));
+    }
+    if name == "del" {
+        return Some(Task::Del(place, read_named(found)?));
     }
     let numbers = read_numbers(found)?;
     if name == "run" {
@@ -100,7 +112,7 @@ fn read_place<'a>(found: &ArgMatches<'a>) -> Option<Place<'a>>
     Some(Place { order, folder })
 }
 
-// The order, where it is one.
+// The order, if it is one.
 fn read_order(found: &ArgMatches<'_>) -> Option<OrderName>
     ensures { IfSome result (IsOrderOf (rows_of (found_of found.now))) }
 {
@@ -114,34 +126,99 @@ fn read_order(found: &ArgMatches<'_>) -> Option<OrderName>
     None
 }
 
-fn read_lookup<'a>(found: &ArgMatches<'a>) -> Option<Lookup<'a>>
+// The keys that are looked up: one, if its bytes alone are wanted.
+fn read_lookup<'a>(alloc: Global, found: &ArgMatches<'a>) -> Option<Lookup<'a>>
     ensures { IfSome result (IsLookup (rows_of (found_of found.now))) }
+{
+    let keys = read_keys(alloc, found)?;
+    let text = read_flag(found, "text")?;
+    let form = form_of(text);
+    let raw = read_flag(found, "raw")?;
+    if !may_be_raw(raw, keys.as_slice()) {
+        return None;
+    }
+    Some(Lookup { keys, form, raw })
+}
+
+// Whether these keys may be asked for so: one alone, if its bytes alone are wanted.
+fn may_be_raw(raw: bool, keys: &[&str]) -> bool
+    ensures { result ≡ true → raw ≡ true → length keys.now ≤ 1 }
+{
+    if !raw {
+        return true;
+    }
+    keys.len() <= 1
+}
+
+// The words that stand for KEY, if there was memory for them.
+fn read_keys<'a>(alloc: Global, found: &ArgMatches<'a>) -> Option<Vec<&'a str>>
+    ensures { IfSome result (λ keys. AreWords (codes "KEY") (rows_of (found_of found.now)) keys.items) }
+{
+    let words = found.get_strs("KEY")?;
+    match copied(alloc, words) {
+        Ok(keys) => Some(keys),
+        Err(_) => None,
+    }
+}
+
+fn copied<'a>(alloc: Global, words: &[&'a str]) -> Result<Vec<&'a str>, AllocError>
+    ensures { IfOk result (λ keys. keys.items ≡ words.now) }
+{
+    let mut keys = Vec::new(alloc);
+    keys.extend_from_slice(words)?;
+    Ok(keys)
+}
+
+fn read_pair<'a>(found: &ArgMatches<'a>) -> Option<Pair<'a>>
+    ensures { IfSome result (IsPair (rows_of (found_of found.now))) }
+{
+    let key = found.get_str("KEY")?;
+    let value = found.get_str("VALUE")?;
+    let text = read_flag(found, "text")?;
+    let form = form_of(text);
+    Some(Pair { key, value, form })
+}
+
+fn read_named<'a>(found: &ArgMatches<'a>) -> Option<Named<'a>>
+    ensures { IfSome result (IsNamed (rows_of (found_of found.now))) }
 {
     let key = found.get_str("KEY")?;
     let text = read_flag(found, "text")?;
     let form = form_of(text);
-    Some(Lookup { key, form })
+    Some(Named { key, form })
 }
 
-// Which pairs, where the range is one of this order.
-fn read_search<'a>(found: &ArgMatches<'a>, order: OrderName) -> Option<Search<'a>>
-    ensures { IfSome result (IsSearch (rows_of (found_of found.now)) order) }
+// Which keys, if the bounds are some of this order.
+fn read_bounds<'a>(found: &ArgMatches<'a>, order: OrderName) -> Option<Bounds<'a>>
+    ensures { IfSome result (AreBounds (rows_of (found_of found.now)) order) }
 {
     let prefix = read_prefix(found, order)?;
-    let limit = read_optional(found, "limit")?;
-    let reverse = read_flag(found, "reverse")?;
-    let style = read_style(found)?;
-    Some(Search {
+    Some(Bounds {
         from: read_word(found, "from"),
         to: read_word(found, "to"),
         prefix,
+    })
+}
+
+// Which pairs, if their bounds are some of this order.
+fn read_search<'a>(found: &ArgMatches<'a>, order: OrderName) -> Option<Search<'a>>
+    ensures { IfSome result (IsSearch (rows_of (found_of found.now)) order) }
+{
+    let bounds = read_bounds(found, order)?;
+    let limit = read_optional(found, "limit")?;
+    let reverse = read_flag(found, "reverse")?;
+    let count = read_flag(found, "count")?;
+    let style = read_style(found)?;
+    Some(Search {
+        bounds,
         limit,
         reverse,
+        count,
         style,
     })
 }
 
-// The prefix, where this order has ranges of them.
+// The prefix, if this order has ranges of them.
 fn read_prefix<'a>(found: &ArgMatches<'a>, order: OrderName) -> Option<Option<&'a str>>
     ensures given { IfSome result (IsWord (codes "prefix") (rows_of (found_of found.now))) }
     ensures ranged { IfSome result (λ prefix. order ≡ OrderName.Reverse → prefix ≡ None) }
@@ -211,7 +288,7 @@ fn read_turns(found: &ArgMatches<'_>) -> Option<Turns>
     Some(Turns { works, strict })
 }
 
-// Whether --work is given, where its word is `auto`.
+// Whether --work is given, if its word is `auto`.
 fn read_work(found: &ArgMatches<'_>) -> Option<bool>
     ensures { IfSome result (λ works. first_of (codes "work") (rows_of (found_of found.now)) ≡ work_word works) }
 {
@@ -229,10 +306,15 @@ fn read_pieces(found: &ArgMatches<'_>) -> Option<Pieces>
 {
     let batch = read_number(found, "batch")?;
     let sync = read_flag(found, "sync")?;
-    Some(Pieces { batch, sync })
+    let create = read_flag(found, "create")?;
+    Some(Pieces {
+        batch,
+        sync,
+        create,
+    })
 }
 
-// The numbers, where each is in its range.
+// The numbers, if each is in its range.
 fn read_numbers(found: &ArgMatches<'_>) -> Option<Numbers>
     ensures { IfSome result (HaveNumbers (rows_of (found_of found.now))) }
 {
@@ -287,19 +369,32 @@ fn read_flag(found: &ArgMatches<'_>, name: &str) -> Option<bool>
     None
 }
 
-// What is wanted, where the options that `clap` found ask for no task.
-fn wanted(matches: &ArgMatches<'_>) -> &'static str {
-    let Some((_, found)) = matches.subcommand() else {
-        return "a command is wanted";
+// What is wrong, if the options that `clap` found ask for no task.
+fn misuse_of(matches: &ArgMatches<'_>) -> Misuse {
+    let Some((name, found)) = matches.subcommand() else {
+        return Misuse::Wanted("a command is wanted");
     };
     let Some(order) = read_order(found) else {
-        return "--order: `bytes` or `reverse` is wanted";
+        return Misuse::Wanted("--order: `bytes` or `reverse` is wanted");
     };
+    if name == "get" {
+        return misuse_of_get(found);
+    }
     if read_work(found).is_none() {
-        return "--work: `auto` is wanted, or no such option";
+        return Misuse::Wanted("--work: `auto` is wanted, or no such option");
     }
     if read_prefix(found, order).is_none() {
-        return "--prefix: --order bytes is wanted, since a prefix is no range of keys in another order";
+        return Misuse::Wanted(
+            "--prefix: --order bytes is wanted, since a prefix is no range of keys in another order",
+        );
     }
-    "--text or --json is wanted, not both"
+    Misuse::Wanted("--text or --json is wanted, not both")
+}
+
+// What is wrong with the keys of a `get`: too many of them, or no memory.
+fn misuse_of_get(found: &ArgMatches<'_>) -> Misuse {
+    match read_flag(found, "raw") {
+        Some(true) => Misuse::Wanted("--raw: one KEY is wanted"),
+        _ => Misuse::Memory,
+    }
 }

@@ -14,7 +14,7 @@ use Rattle.reader.specs.Readers.{ShowsMap, facts_of}
 use Rattle.browse.specs.declared.choice.Choice.{Choice}
 use Rattle.browse.specs.Choices.{at_most}
 use Rattle.browse.specs.Forms.{lines_in}
-use Rattle.browse.specs.Browsing.{IsTold, end_status, end_text}
+use Rattle.browse.specs.Browsing.{IsTold, end_status}
 use Rattle.browse.specs.internal.Lists.{reach, starting}
 use Rattle.browse.specs.internal.Walking.{RefusesMove, Stands}
 
@@ -41,11 +41,11 @@ pub record PrintsMap {S K : Type 0} (order : Order) (choice : Choice) (facts : S
   pub told : IsTrue (facts_of facts new).faithful → (map : Contents) → ShowsMap order facts old map → IsTold order.cmp choice map came answer
   pub refused : IfErr answer (λ e. RefusesMove order.cmp e (facts_of facts old) (facts_of facts new) (λ P. (map : Contents) → ShowsMap order facts old map → P))
 
--- And all of it was written, with the refusal behind it.
+-- And all of it was written.
 pub record TellsMap {S K : Type 0} (order : Order) (choice : Choice) (facts : S → Facts) (old new : Reader S K) (before after : Option (List ℕ)) (status : ℕ) : Type 0 where
   pub came : List Pair
   pub answer : Result (Unit {0}) DbError
   pub told : IsTrue (facts_of facts new).faithful → (map : Contents) → ShowsMap order facts old map → IsTold order.cmp choice map came answer
   pub refused : IfErr answer (λ e. RefusesMove order.cmp e (facts_of facts old) (facts_of facts new) (λ P. (map : Contents) → ShowsMap order facts old map → P))
-  pub written : Appends before after (lines_in choice.style came ++ end_text answer)
+  pub written : Appends before after (lines_in choice.style came)
   pub ended : status ≡ end_status answer

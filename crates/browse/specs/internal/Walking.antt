@@ -18,7 +18,8 @@ use Rattle.browse.specs.internal.Lists.{behind, end_of, starting}
 abbrev pub Stands : {S K : Type 0} {g : _} → Cmp → (S → Facts) → Reader S K → ReaderWalk K g → Walk → Type 0
 Stands cmp facts reader walk at = IsWalk cmp true (whole_of facts reader) (scan_of walk) at
 
--- what the walk comes to by its next move: where it hasn't begun its start, from either end of the range,
+-- what the walk comes to by its next move: where it hasn't begun its start, from either end of the
+-- range,
 abbrev pub StartsForwards : Cmp → Option (List ℕ) → Walk → List Pair → Type 0
 StartsForwards cmp from at ahead = ahead ≡ drop (start_of cmp from at.pairs) at.pairs
 
@@ -42,8 +43,8 @@ RefusesMove cmp (error.Corrupt file what) old new Of = IsTrue new.faithful → O
 RefusesMove cmp (error.Unsupported what) old new Of = IsTrue new.faithful → Of (HasLongTable cmp old.files)
 RefusesMove cmp _ old new Of = ⊥
 
--- The walk stands on the first of those that were ahead, as far as `part` has them, and the others are behind it; none came where there
--- is none.
+-- The walk stands on the first of those that were ahead, as far as `part` has them, and the others
+-- are behind it; none came where there is none.
 abbrev pub Arrives : {S K : Type 0} {g : _} → Cmp → (S → Facts) → Bool → (List Pair → List Pair) → Reader S K → ReaderWalk K g → List Pair → List Pair → Result (Option Pair) DbError → Type 0
 Arrives cmp facts backwards part reader walk pairs ahead (Ok None) = part ahead ≡ []
 Arrives cmp facts backwards part reader walk pairs ahead (Ok (Some pair)) =

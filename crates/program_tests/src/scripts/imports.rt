@@ -6,8 +6,8 @@ use std::alloc::{AllocGlobal, Global};
 use std::process::Abort;
 use store::{Extent, Fault, FaultStore, MemStore, Plan, Store};
 
-// Lines that are imported by batches of two operations, what is written, the exit status, and what a script says of the database
-// then.
+// Lines that are imported by batches of two operations, what is written, the exit status, and what
+// a script says of the database then.
 const IMPORTS: [(&str, &str, u8, &str); 9] = [
     ("", "taken 0\n", 0, "ok\nnone\nnone\n"),
     ("put 61 31\n", "taken 1\n", 0, "ok\nvalue 31\nnone\n"),
@@ -53,8 +53,8 @@ const IMPORTS: [(&str, &str, u8, &str); 9] = [
 
 const LOOK: &str = "open\nget 61\nget 62\n";
 
-// What an import by batches of so many operations writes, and its status. Nothing is claimed of it, so that a caller's proof needn't
-// read what is claimed of `import`.
+// What an import by batches of so many operations writes, and its status. Nothing is claimed of it,
+// so that a caller's proof needn't read what is claimed of `import`.
 fn imported<S: Store>(
     alloc: Global,
     session: &mut Session<S, Bytewise>,
@@ -136,7 +136,8 @@ fn a_batch_has_1_to_65536_operations(rt: HostRuntime) {
     assert!(rt; Importing::new(65_537, true).is_none());
 }
 
-// Compactions of an empty folder, of one with an import in it, of a level of that, and of a level that can't be.
+// Compactions of an empty folder, of one with an import in it, of a level of that, and of a level
+// that can't be.
 #[test]
 fn compactions_are_done_or_refused(rt: HostRuntime) {
     let alloc = rt.alloc();
@@ -169,7 +170,8 @@ fn compactions_are_done_or_refused(rt: HostRuntime) {
 
 const FOUR: &str = "put 61 31\nput 62 32\nput 63 33\nput 64 34\n";
 
-// Whether an import over a store of which this call fails is refused as `Io`, and tells of no more than what it took.
+// Whether an import over a store of which this call fails is refused as `Io`, and tells of no more
+// than what it took.
 fn is_refused_at(alloc: Global, session: &mut Session<FaultStore, Bytewise>) -> bool {
     match imported(alloc, session, 1, FOUR) {
         Some((1, out)) => out.as_slice().starts_with(b"refused 2 Io\ntaken "),

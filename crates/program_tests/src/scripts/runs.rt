@@ -41,7 +41,8 @@ fn in_memory(alloc: Global) -> InMemory {
     Session::new(alloc, MemStore::new(alloc), Options::default())
 }
 
-// Runs a script. Nothing is claimed of it, so that a caller's proof needn't read what is claimed of `drive`.
+// Runs a script. Nothing is claimed of it, so that a caller's proof needn't read what is claimed of
+// `drive`.
 fn run<R: Read + Drop, W: Write>(
     alloc: Global,
     session: &mut InMemory,
@@ -79,7 +80,8 @@ fn scripts_are_answered(rt: HostRuntime) {
     }
 }
 
-// A line of so many letters says no command, and decides where in the buffer of 65,536 bytes the three lines behind it lie.
+// A line of so many letters says no command, and decides where in the buffer of 65,536 bytes the
+// three lines after it lie.
 fn is_answered_behind_letters(
     alloc: Global,
     session: &mut InMemory,
@@ -186,7 +188,8 @@ fn a_writer_that_fails_has_a_beginning_of_the_text(rt: HostRuntime) {
     }
 }
 
-// A writer that is interrupted at every second call, takes a byte at each other, and passes on what it has when it is told to.
+// A writer that is interrupted at every second call, takes a byte at each other, and passes on what
+// it has when it is told to.
 #[derive(Drop)]
 struct Hesitant {
     taken: Vec<u8>,

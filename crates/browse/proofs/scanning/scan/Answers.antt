@@ -1,4 +1,4 @@
-use Rattle.std.proofs.Common.{sym, subst}
+use Rattle.std.proofs.Common.{refl, sym, subst}
 use Rattle.ikey.specs.Orders.{order_of}
 use Rattle.table.specs.Reading.{Reads}
 use Rattle.table.proofs.Steps.{reads_then}
@@ -6,7 +6,7 @@ use Rattle.reader.specs.ReadOnly.{looked_at}
 use Rattle.reader.specs.Readers.{facts_of}
 use Rattle.browse.specs.Browsing.{Scans}
 use Rattle.browse.proofs.Printed.{if_ok}
-use Rattle.browse.proofs.Scanned.{refused_so, scans}
+use Rattle.browse.proofs.Scanned.{scans, scans_none}
 use Rattle.browse.proofs.scanning.scan.Goals as goal
 
 pub returns-in-Ok-clause-told : goal.returns-in-Ok-clause-told
@@ -31,6 +31,6 @@ pub returns-in-Err-clause-told : goal.returns-in-Err-clause-told
 returns-in-Err-clause-told g c =
     let order = order_of g.K.KeyOrder.name g.K.KeyOrder.cmp in
     let facts = g.S.Store.facts in
-    let contents = g.W.Write.contents in
-    refused_so c.print_refusal.result order c.in-Err.error (looked_at facts c.args.store) (looked_at facts c.in-Err.store) c.args.choice.now (contents c.args.writer.now) (contents c.print_refusal.new.writer)
-    c.in-Err.ensures.refused c.in-Err.ensures.counted c.print_refusal.ensures.written c.print_refusal.ensures.ended
+    let written = g.W.Write.contents c.args.writer.now in
+    scans_none order c.in-Err.error (looked_at facts c.args.store) (looked_at facts c.in-Err.store) c.args.choice.now written written 1
+    c.in-Err.ensures.refused c.in-Err.ensures.counted refl refl

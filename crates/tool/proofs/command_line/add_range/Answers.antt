@@ -3,8 +3,6 @@ use Rattle.tool.proofs.command_line.add_range.Goals as goal
 
 pub returns : goal.returns
 returns c = λ app was.
-    let first = add_arg c.args.command c.in_ok-first.first c.bound.result app _ was c.bound.ensures c.in_ok-first.ensures in
-    let second = add_arg c.in_ok-first.first c.in_ok-second.second c.bound-2.result _ _ first c.bound-2.ensures c.in_ok-second.ensures in
-    let third = add_arg c.in_ok-second.second c.in_ok-third.third c.bound-3.result _ _ second c.bound-3.ensures c.in_ok-third.ensures in
-    let fourth = add_arg c.in_ok-third.third c.in_ok-fourth.fourth c.limit.result _ _ third c.limit.ensures c.in_ok-fourth.ensures in
-    add_arg c.in_ok-fourth.fourth c.in_ok-whole.whole c.flag.result _ _ fourth c.flag.ensures c.in_ok-whole.ensures
+    let bounded = c.in_ok-bounded.ensures app was in
+    let second = add_arg c.in_ok-bounded.bounded c.in_ok-second.second c.limit.result _ _ bounded c.limit.ensures c.in_ok-second.ensures in
+    add_arg c.in_ok-second.second c.in_ok-whole.whole c.flag.result _ _ second c.flag.ensures c.in_ok-whole.ensures

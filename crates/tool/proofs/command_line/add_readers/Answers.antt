@@ -4,7 +4,7 @@ pub returns : goal.returns
 returns c = λ app was.
     let first = c.in_ok-first.ensures app _ was c.get.ensures in
     let second = c.in_ok-second.ensures _ _ first c.scan.ensures in
-    let third = c.in_ok-third.ensures _ _ second c.reading.ensures in
+    let third = c.in_ok-third.ensures _ _ second c.export.ensures in
     let fourth = c.in_ok-fourth.ensures _ _ third c.stats.ensures in
     let fifth = c.in_ok-fifth.ensures _ _ fourth c.check.ensures in
     c.in_ok-whole.ensures _ _ fifth c.dump.ensures

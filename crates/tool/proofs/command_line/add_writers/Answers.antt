@@ -4,4 +4,6 @@ pub returns : goal.returns
 returns c = λ app was.
     let first = c.in_ok-first.ensures app _ was c.run.ensures in
     let second = c.in_ok-second.ensures _ _ first c.import.ensures in
-    c.in_ok-whole.ensures _ _ second c.compact.ensures
+    let third = c.in_ok-third.ensures _ _ second c.compact.ensures in
+    let fourth = c.in_ok-fourth.ensures _ _ third c.put.ensures in
+    c.in_ok-whole.ensures _ _ fourth c.del.ensures

@@ -15,6 +15,5 @@ returns-in_ok-print_overview-in-Ok-Some g c =
 
 pub returns-in-Err : goal.returns-in-Err
 returns-in-Err g c =
-    answers_refusal c.print_refusal.result (order_of g.K.KeyOrder.name g.K.KeyOrder.cmp) c.args.json (g.S.Store.facts c.args.store.now) (g.S.Store.facts c.overview_of.new.store) (g.W.Write.contents c.args.writer.now)
-    (g.W.Write.contents c.print_refusal.new.writer) c.in-Err.error
-    (record { reads = c.in-Err.ensures.store; found = tt; refused = c.in-Err.ensures.refused; counted = c.in-Err.ensures.counted }) c.print_refusal.ensures.written c.print_refusal.ensures.status
+    answers_refusal (order_of g.K.KeyOrder.name g.K.KeyOrder.cmp) c.args.json (g.S.Store.facts c.args.store.now) (g.S.Store.facts c.overview_of.new.store) (g.W.Write.contents c.args.writer.now) c.in-Err.error
+    (record { reads = c.in-Err.ensures.store; found = tt; refused = c.in-Err.ensures.refused; counted = c.in-Err.ensures.counted })

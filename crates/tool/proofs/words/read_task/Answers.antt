@@ -2,7 +2,7 @@ use Rattle.std.proofs.Common.{sym}
 use Rattle.std.specs.Prelude.{codes}
 use Rattle.std.proofs.lemmas.Slice.Eq.{bytes_eq-Decides}
 use Rattle.clap.specs.Words.{found_of, rows_of}
-use Rattle.tool.specs.declared.task.Task.TheVariants.{Get, Scan, Export, Check, Stats, Dump, Run, Import, Compact}
+use Rattle.tool.specs.declared.task.Task.TheVariants.{Get, Scan, Export, Check, Stats, Dump, Put, Del, Run, Import, Compact}
 use Rattle.tool.proofs.Found.{asks_for}
 use Rattle.tool.proofs.words.read_task.Goals as goal
 
@@ -21,8 +21,8 @@ returns-then-eq-2 c =
 pub returns-then-eq-3 : goal.returns-then-eq-3
 returns-then-eq-3 c =
     let named = (bytes_eq-Decides c.in_ok-name.name.now (codes "export")).0 (sym c.if-eq-3.ensures) in
-    asks_for c.args.matches.now c.in_ok-name.name.now (rows_of (found_of c.in_ok-name.found.now)) (Export c.in_ok-place.place) c.in_ok-name.ensures.name
-    c.in_ok-name.ensures.rows (named, c.in_ok-place.ensures)
+    asks_for c.args.matches.now c.in_ok-name.name.now (rows_of (found_of c.in_ok-name.found.now)) (Export c.in_ok-place.place c.in_ok-read_bounds.field-0) c.in_ok-name.ensures.name
+    c.in_ok-name.ensures.rows (named, c.in_ok-place.ensures, c.in_ok-read_bounds.ensures)
 
 pub returns-then-eq-4 : goal.returns-then-eq-4
 returns-then-eq-4 c =
@@ -44,18 +44,30 @@ returns-then-eq-6 c =
 
 pub returns-then-eq-7 : goal.returns-then-eq-7
 returns-then-eq-7 c =
-    let named = (bytes_eq-Decides c.in_ok-name.name.now (codes "run")).0 (sym c.if-eq-7.ensures) in
-    asks_for c.args.matches.now c.in_ok-name.name.now (rows_of (found_of c.in_ok-name.found.now)) (Run c.in_ok-place.place c.in_ok-numbers.numbers c.in_ok-read_turns.field-0) c.in_ok-name.ensures.name
-    c.in_ok-name.ensures.rows (named, c.in_ok-place.ensures, c.in_ok-numbers.ensures, c.in_ok-read_turns.ensures)
+    let named = (bytes_eq-Decides c.in_ok-name.name.now (codes "put")).0 (sym c.if-eq-7.ensures) in
+    asks_for c.args.matches.now c.in_ok-name.name.now (rows_of (found_of c.in_ok-name.found.now)) (Put c.in_ok-place.place c.in_ok-read_pair.field-0) c.in_ok-name.ensures.name
+    c.in_ok-name.ensures.rows (named, c.in_ok-place.ensures, c.in_ok-read_pair.ensures)
 
 pub returns-then-eq-8 : goal.returns-then-eq-8
 returns-then-eq-8 c =
-    let named = (bytes_eq-Decides c.in_ok-name.name.now (codes "import")).0 (sym c.if-eq-8.ensures) in
-    asks_for c.args.matches.now c.in_ok-name.name.now (rows_of (found_of c.in_ok-name.found.now)) (Import c.in_ok-place.place c.in_ok-numbers.numbers c.in_ok-read_pieces.field-0) c.in_ok-name.ensures.name
-    c.in_ok-name.ensures.rows (named, c.in_ok-place.ensures, c.in_ok-numbers.ensures, c.in_ok-read_pieces.ensures)
+    let named = (bytes_eq-Decides c.in_ok-name.name.now (codes "del")).0 (sym c.if-eq-8.ensures) in
+    asks_for c.args.matches.now c.in_ok-name.name.now (rows_of (found_of c.in_ok-name.found.now)) (Del c.in_ok-place.place c.in_ok-read_named.field-0) c.in_ok-name.ensures.name
+    c.in_ok-name.ensures.rows (named, c.in_ok-place.ensures, c.in_ok-read_named.ensures)
 
 pub returns-then-eq-9 : goal.returns-then-eq-9
 returns-then-eq-9 c =
-    let named = (bytes_eq-Decides c.in_ok-name.name.now (codes "compact")).0 (sym c.if-eq-9.ensures) in
+    let named = (bytes_eq-Decides c.in_ok-name.name.now (codes "run")).0 (sym c.if-eq-9.ensures) in
+    asks_for c.args.matches.now c.in_ok-name.name.now (rows_of (found_of c.in_ok-name.found.now)) (Run c.in_ok-place.place c.in_ok-numbers.numbers c.in_ok-read_turns.field-0) c.in_ok-name.ensures.name
+    c.in_ok-name.ensures.rows (named, c.in_ok-place.ensures, c.in_ok-numbers.ensures, c.in_ok-read_turns.ensures)
+
+pub returns-then-eq-10 : goal.returns-then-eq-10
+returns-then-eq-10 c =
+    let named = (bytes_eq-Decides c.in_ok-name.name.now (codes "import")).0 (sym c.if-eq-10.ensures) in
+    asks_for c.args.matches.now c.in_ok-name.name.now (rows_of (found_of c.in_ok-name.found.now)) (Import c.in_ok-place.place c.in_ok-numbers.numbers c.in_ok-read_pieces.field-0) c.in_ok-name.ensures.name
+    c.in_ok-name.ensures.rows (named, c.in_ok-place.ensures, c.in_ok-numbers.ensures, c.in_ok-read_pieces.ensures)
+
+pub returns-then-eq-11 : goal.returns-then-eq-11
+returns-then-eq-11 c =
+    let named = (bytes_eq-Decides c.in_ok-name.name.now (codes "compact")).0 (sym c.if-eq-11.ensures) in
     asks_for c.args.matches.now c.in_ok-name.name.now (rows_of (found_of c.in_ok-name.found.now)) (Compact c.in_ok-place.place c.in_ok-numbers.numbers c.in_ok-read_optional.field-0) c.in_ok-name.ensures.name
     c.in_ok-name.ensures.rows (named, c.in_ok-place.ensures, c.in_ok-numbers.ensures, c.in_ok-read_optional.ensures)

@@ -1,7 +1,7 @@
 use Rattle.std.specs.Prelude.{codes}
 use Rattle.clap.specs.Words.{found_of}
 use Rattle.tool.proofs.Found.{word_by_rows}
-use Rattle.tool.proofs.words.read_lookup.Goals as goal
+use Rattle.tool.proofs.words.read_named.Goals as goal
 
 pub returns : goal.returns
 returns c = record {

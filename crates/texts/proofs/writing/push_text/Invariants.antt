@@ -1,6 +1,6 @@
 use Rattle.std.proofs.Common.{◌≡◌, ◌++◌, take}
-use Rattle.browse.specs.Forms.{escaped}
-use Rattle.browse.proofs.form.push_escaped.Given as goal
+use Rattle.texts.specs.Texts.{escaped}
+use Rattle.texts.proofs.writing.push_text.Given as goal
 
 -- the bytes so far stand behind the text
 abbrev pub invariant-loop-byte : goal.invariant-loop-byte

@@ -1,7 +1,7 @@
--- Texts that are written one after the other.
+-- Texts that are written byte by byte.
 use Rattle.std.proofs.Common.{◌≡◌, ◌++◌, ◌∷◌, [], ◌+◌, ◌<◌, ℕ, List, sym, ap, ◌∙◌, append-nil, append_assoc, take, length, get_or}
 use Rattle.std.proofs.lemmas.List.{take_more}
-use Rattle.browse.specs.Forms.{escaped, escaped_byte}
+use Rattle.texts.specs.Texts.{escaped, escaped_byte}
 
 escaped-push : (bytes : List ℕ) (byte : ℕ) → escaped (bytes ++ byte ∷ []) ≡ escaped bytes ++ escaped_byte byte
 escaped-push [] byte = append-nil (escaped_byte byte)

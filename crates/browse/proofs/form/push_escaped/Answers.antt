@@ -1,6 +1,0 @@
-use Rattle.browse.proofs.Texts.{escapes_more}
-use Rattle.browse.proofs.form.push_escaped.Goals as goal
-
-pub loop-byte-preserved : goal.loop-byte-preserved
-loop-byte-preserved c =
-    escapes_more c.args.bytes.now c.loop-byte.byte-index c.args.text.now.items c.loop-byte.text.items c.push_escaped_byte.new.text.items c.loop-byte-test.true c.loop-byte.invariant c.in_ok-push_escaped_byte.ensures

@@ -1,0 +1,3 @@
+mod Pushed
+mod Spelled
+mod Returned
