@@ -69,6 +69,15 @@ AnswersOn cmp lists cursor source entries sequence test key false = (entry : Int
 abbrev pub Hidden : Bool → List ℕ → List ℕ → Type 0
 Hidden hides hidden user = (hides ≡ true) × (hidden ≡ user)
 
+-- what is hidden once an entry was found deleted, whose user key is held, and before
+abbrev pub hides_now : Bool → Bool → Bool
+hides_now true hides = true
+hides_now false hides = hides
+
+abbrev pub hidden_now : Bool → List ℕ → List ℕ → List ℕ
+hidden_now true hidden held = held
+hidden_now false hidden held = hidden
+
 pub record Takes (key : Key) (sequence : ℕ) (hides : Bool) (hidden found : List ℕ) : Type 0 where
   pub seen : key.sequence ≤ sequence
   pub shown : Hidden hides hidden key.user → ⊥

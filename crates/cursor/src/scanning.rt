@@ -11,6 +11,7 @@ ghost use Rattle.cursor.specs.Moves.{RefusesMoves};
 ghost use Rattle.cursor.specs.Merging.{listed};
 ghost use Rattle.cursor.specs.Searches.{Wanders, SearchesOn, AnswersOn, LooksOn, Hidden, SearchesBack};
 ghost use Rattle.cursor.specs.Searches.{AnswersBack, LooksBack, HasPassedNone, RefusesKey, below_bound};
+ghost use Rattle.cursor.specs.Searches.{hides_now, hidden_now};
 
 use crate::copying::copy_to;
 use crate::cursor::Cursor;
@@ -37,33 +38,35 @@ impl Found {
 }
 
 /// Goes on from the cursor's entry to the first that is visible: the newest of its user key up to
-/// the sequence number, and a put. With `hides`, the user key in the buffer is passed over. The
-/// buffer has the user key that was found. More entries than 2^64, which no store holds, are too
-/// much for memory.
+/// the sequence number, and a put. With `hides`, the hidden user key is passed over. The buffer
+/// has the user key that was found: each entry that may be it is copied there, and nothing else.
+/// More entries than 2^64, which no store holds, are too much for memory.
 pub fn find_on<K: KeyOrder, S, C: Cursor<K, S>>(
     cursor: &mut C,
     alloc: Global,
     source: &mut S,
     sequence: u64,
     hides: bool,
-    hidden: &mut Vec<u8>,
+    hidden: &[u8],
+    found: &mut Vec<u8>,
 ) -> Result<bool, DbError>
     ensures found { IsTrue (C.facts source.new).faithful → IfOk result
-        (λ found. (entries : List InternalEntry) (test : List ℕ → Bool) (index : ℕ)
+        (λ has. (entries : List InternalEntry) (test : List ℕ → Bool) (index : ℕ)
         → C.lists cursor.old source.old (listed entries (within entries index))
-        → SearchesOn K.cmp entries sequence test index hides hidden.old.items
-        → AnswersOn K.cmp C.lists cursor.new source.new entries sequence test hidden.new.items found) }
-    ensures stands { IfOk result (λ found. found ≡ true → C.stands cursor.new ≡ true) }
+        → SearchesOn K.cmp entries sequence test index hides hidden.now
+        → AnswersOn K.cmp C.lists cursor.new source.new entries sequence test found.new.items has) }
+    ensures stands { IfOk result (λ has. has ≡ true → C.stands cursor.new ≡ true) }
     ensures wanders { Wanders C.facts C.lists C.keeps C.limited C.torn C.leaves C.over cursor.old cursor.new source.old source.new }
     ensures still { IsStill (C.facts source.old) (C.facts source.new) result }
     ensures refused { RefusesMoves C.facts C.lists C.limited C.torn cursor.old source.old source.new result }
 {
-    let mut hiding = hides;
+    let mut holds = false;
     'search: for _ in 0..u64::MAX {
         if !cursor.stands() {
             return Ok(false);
         }
-        if look_on(cursor.key(source), sequence, &mut hiding, hidden)? {
+        let key = cursor.key(source);
+        if look_on(key, sequence, hides, hidden, &mut holds, found)? {
             return Ok(true);
         }
         cursor.next(alloc, source)?;
@@ -71,38 +74,46 @@ pub fn find_on<K: KeyOrder, S, C: Cursor<K, S>>(
     Err(DbError::OutOfMemory)
 }
 
-// Whether the entry of this key is the one that is looked for. Where not, it may hide the older
-// ones of its user key.
+// Whether the entry of this key is the one that is looked for. If not, it may hide the older ones
+// of its user key: then the buffer holds that key, as it does once an entry is found.
 fn look_on(
     bytes: &[u8],
     sequence: u64,
-    hides: &mut bool,
-    hidden: &mut Vec<u8>,
+    hides: bool,
+    hidden: &[u8],
+    holds: &mut bool,
+    found: &mut Vec<u8>,
 ) -> Result<bool, DbError>
-    ensures looks { IfOk result (λ found. (key : Key) → IsKey bytes.now key
-        → LooksOn key sequence hides.old hidden.old.items hides.new hidden.new.items found) }
+    ensures looks { IfOk result (λ has. (key : Key) → IsKey bytes.now key
+        → LooksOn key sequence (hides_now holds.old hides) (hidden_now holds.old hidden.now found.old.items)
+        (hides_now holds.new hides) (hidden_now holds.new hidden.now found.new.items) has) }
+    ensures held { IfOk result (λ has. has ≡ true → holds.new ≡ true) }
     ensures refused { IfErr result (λ e. RefusesKey e bytes.now) }
 {
     let key = key_of(bytes)?;
     if key.sequence > sequence {
         return Ok(false);
     }
-    if is_hidden(*hides, hidden.as_slice(), key.user) {
+    if is_hidden(hides, hidden, *holds, found.as_slice(), key.user) {
         return Ok(false);
     }
-    copy_to(hidden, key.user)?;
+    copy_to(found, key.user)?;
+    *holds = true;
     match key.kind {
         Kind::Put => Ok(true),
-        Kind::Delete => {
-            *hides = true;
-            Ok(false)
-        }
+        Kind::Delete => Ok(false),
     }
 }
 
-fn is_hidden(hides: bool, hidden: &[u8], user: &[u8]) -> bool
-    ensures { MatchBool result (Hidden hides hidden.now user.now) (Hidden hides hidden.now user.now → ⊥) }
+// Whether this user key is the one that was deleted last, or, if none was, the hidden one.
+fn is_hidden(hides: bool, hidden: &[u8], holds: bool, found: &[u8], user: &[u8]) -> bool
+    ensures { MatchBool result
+        (Hidden (hides_now holds hides) (hidden_now holds hidden.now found.now) user.now)
+        (Hidden (hides_now holds hides) (hidden_now holds hidden.now found.now) user.now → ⊥) }
 {
+    if holds {
+        return same_bytes(found, user);
+    }
     if !hides {
         return false;
     }

@@ -2,7 +2,6 @@
 
 ghost use Rattle.std.specs.Prelude.{◌<◌, ◌^◌};
 
-use crate::copying::copy_to;
 use crate::cursor::Cursor;
 use crate::scanning::{Found, find_back, find_on};
 use crate::standing::{Position, bound_of, stand_ahead, stand_behind};
@@ -275,13 +274,13 @@ impl<K: KeyOrder, C> Visible<K, C> {
         ensures still { IsStill (C.facts source.old) (C.facts source.new) result }
         ensures refused { RefusesMoves C.facts C.lists C.limited C.torn self.old.cursor source.old source.new result }
     {
-        copy_to(&mut self.spare.key, self.here.key.as_slice())?;
         if !find_on::<K, S, C>(
             &mut self.cursor,
             alloc,
             source,
             self.sequence,
             past,
+            self.here.key.as_slice(),
             &mut self.spare.key,
         )? {
             self.stands = false;

@@ -1,8 +1,8 @@
-use Rattle.std.proofs.Common.{Bool, refl, sym, ◌∙◌, subst}
+use Rattle.std.proofs.Common.{Bool, true, refl, sym, ◌∙◌, subst}
 use Rattle.std.proofs.lemmas.Result.{err_from_is_err_and}
 use Rattle.ikey.specs.Keys.{Key, IsKey}
 use Rattle.cursor.specs.Cuts.{next_cut}
-use Rattle.cursor.specs.Searches.{LooksOn}
+use Rattle.cursor.specs.Searches.{AnswersOn, LooksOn, hides_now, hidden_now}
 use Rattle.cursor.proofs.Wanderings.{wanders_still, wanders_then, move_wanders, refused_at, refused_then, refused_key, ended_on, found_on, passed_on}
 use Rattle.cursor.proofs.Turns.{still_later, still_there}
 use Rattle.cursor.proofs.scanning.find_on.Goals as goal
@@ -20,9 +20,9 @@ search-preserved g c = record {
       (move_wanders g.C.Cursor.facts g.C.Cursor.lists g.C.Cursor.keeps g.C.Cursor.limited g.C.Cursor.torn g.C.Cursor.leaves g.C.Cursor.over c.search.cursor c.next.new.self c.search.source c.next.new.source c.next.result _ c.next.ensures.moves c.next.ensures.stays);
   comes = λ t entries test index l h.
       let at = c.search.invariant.comes (c.next.ensures.stays.reads.faithful t) entries test index l h in
-      let looks = subst (λ (b : Bool). (k : Key) → IsKey c.key.result.now k → LooksOn k c.args.sequence c.search.hiding c.search.hidden.items c.look_on.new.hides c.look_on.new.hidden.items b) c.if-branch.false c.in_ok-look_on.ensures.looks in
+      let looks = subst (λ (b : Bool). (k : Key) → IsKey c.key-key.result.now k → LooksOn k c.args.sequence (hides_now c.search.holds c.args.hides) (hidden_now c.search.holds c.args.hidden.now c.search.found.items) (hides_now c.look_on.new.holds c.args.hides) (hidden_now c.look_on.new.holds c.args.hidden.now c.look_on.new.found.items) b) c.if-branch.false c.in_ok-look_on.ensures.looks in
       let p = passed_on g.K.KeyOrder.cmp g.met.K.KeyOrder.total g.met.K.KeyOrder.exact g.C.Cursor.lists g.C.Cursor.stands g.met.C.Cursor.rises g.met.C.Cursor.placed g.met.C.Cursor.inside entries c.args.sequence test at.0 c.search.cursor c.search.source
-      c.key.result.now c.key.ensures c.search.hiding c.look_on.new.hides c.search.hidden.items c.look_on.new.hidden.items at.1 (sym c.stands.ensures ∙ c.if-not-stands.false) at.2 looks c.next.new.self c.next.new.source (c.in_ok-next.ensures.moves t) in
+      c.key-key.result.now c.key-key.ensures (hides_now c.search.holds c.args.hides) (hides_now c.look_on.new.holds c.args.hides) (hidden_now c.search.holds c.args.hidden.now c.search.found.items) (hidden_now c.look_on.new.holds c.args.hidden.now c.look_on.new.found.items) at.1 (sym c.stands.ensures ∙ c.if-not-stands.false) at.2 looks c.next.new.self c.next.new.source (c.in_ok-next.ensures.moves t) in
       (_, p.0, p.1);
   still = c.in_ok-next.ensures.still ∙ c.search.invariant.still;
 }
@@ -31,14 +31,16 @@ pub returns-then-not-stands-clause-found : goal.returns-then-not-stands-clause-f
 returns-then-not-stands-clause-found g c = λ t entries test index l h.
     let at = c.search.invariant.comes t entries test index l h in
     ended_on g.K.KeyOrder.cmp g.met.K.KeyOrder.total g.met.K.KeyOrder.exact g.C.Cursor.lists g.C.Cursor.stands g.met.C.Cursor.rises g.met.C.Cursor.placed g.met.C.Cursor.inside entries c.args.sequence test at.0 c.search.cursor c.search.source
-    c.search.hiding c.search.hidden.items at.1 (sym c.stands.ensures ∙ c.if-not-stands.true) at.2
+    (hides_now c.search.holds c.args.hides) (hidden_now c.search.holds c.args.hidden.now c.search.found.items) at.1 (sym c.stands.ensures ∙ c.if-not-stands.true) at.2
 
 pub returns-then-branch-clause-found : goal.returns-then-branch-clause-found
 returns-then-branch-clause-found g c = λ t entries test index l h.
     let at = c.search.invariant.comes t entries test index l h in
-    let looks = subst (λ (b : Bool). (k : Key) → IsKey c.key.result.now k → LooksOn k c.args.sequence c.search.hiding c.search.hidden.items c.look_on.new.hides c.look_on.new.hidden.items b) c.if-branch.true c.in_ok-look_on.ensures.looks in
-    found_on g.K.KeyOrder.cmp g.met.K.KeyOrder.total g.met.K.KeyOrder.exact g.C.Cursor.lists g.C.Cursor.stands g.met.C.Cursor.rises g.met.C.Cursor.placed g.met.C.Cursor.inside entries c.args.sequence test at.0 c.search.cursor c.search.source
-    c.key.result.now c.key.ensures c.search.hiding c.look_on.new.hides c.search.hidden.items c.look_on.new.hidden.items at.1 (sym c.stands.ensures ∙ c.if-not-stands.false) at.2 looks
+    let looks = subst (λ (b : Bool). (k : Key) → IsKey c.key-key.result.now k → LooksOn k c.args.sequence (hides_now c.search.holds c.args.hides) (hidden_now c.search.holds c.args.hidden.now c.search.found.items) (hides_now c.look_on.new.holds c.args.hides) (hidden_now c.look_on.new.holds c.args.hidden.now c.look_on.new.found.items) b) c.if-branch.true c.in_ok-look_on.ensures.looks in
+    let held = c.in_ok-look_on.ensures.held c.if-branch.true in
+    subst (λ (b : Bool). AnswersOn g.K.KeyOrder.cmp g.C.Cursor.lists c.search.cursor c.search.source entries c.args.sequence test (hidden_now b c.args.hidden.now c.look_on.new.found.items) true) held
+    (found_on g.K.KeyOrder.cmp g.met.K.KeyOrder.total g.met.K.KeyOrder.exact g.C.Cursor.lists g.C.Cursor.stands g.met.C.Cursor.rises g.met.C.Cursor.placed g.met.C.Cursor.inside entries c.args.sequence test at.0 c.search.cursor c.search.source
+    c.key-key.result.now c.key-key.ensures (hides_now c.search.holds c.args.hides) (hides_now c.look_on.new.holds c.args.hides) (hidden_now c.search.holds c.args.hidden.now c.search.found.items) (hidden_now c.look_on.new.holds c.args.hidden.now c.look_on.new.found.items) at.1 (sym c.stands.ensures ∙ c.if-not-stands.false) at.2 looks)
 
 pub returns-in_err-next-clause-wanders : goal.returns-in_err-next-clause-wanders
 returns-in_err-next-clause-wanders g c =
@@ -58,7 +60,7 @@ returns-in_err-look_on-clause-refused g c =
     let p = err_from_is_err_and c.from_residual.result c.from_residual.ensures.1 in
     rw (p.1, p.2)
     (refused_key g.K.KeyOrder.cmp g.met.K.KeyOrder.total g.met.K.KeyOrder.exact g.C.Cursor.lists g.C.Cursor.stands g.met.C.Cursor.rises g.met.C.Cursor.placed g.met.C.Cursor.inside _ g.C.Cursor.facts g.C.Cursor.keeps g.C.Cursor.limited g.C.Cursor.torn g.C.Cursor.leaves g.C.Cursor.over
-    c.args.cursor.now c.search.cursor c.args.source.now c.search.source c.key.result.now (g.C.Cursor.limited c.args.cursor.now c.args.source.now) c.search.invariant.wanders (sym c.stands.ensures ∙ c.if-not-stands.false) c.key.ensures c.in_err-look_on.ensures.refused)
+    c.args.cursor.now c.search.cursor c.args.source.now c.search.source c.key-key.result.now (g.C.Cursor.limited c.args.cursor.now c.args.source.now) c.search.invariant.wanders (sym c.stands.ensures ∙ c.if-not-stands.false) c.key-key.ensures c.in_err-look_on.ensures.refused)
 
 pub returns-in_err-next-clause-still : goal.returns-in_err-next-clause-still
 returns-in_err-next-clause-still g c =
