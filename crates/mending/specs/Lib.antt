@@ -1,0 +1,5 @@
+pub mod Calls
+pub mod Cutting
+pub mod Mending
+pub mod Plans
+pub mod Replacing
