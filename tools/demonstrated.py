@@ -10,19 +10,22 @@ from running import SECONDS, under_test, want
 # What each command of the session prints, in its order.
 PRINTED = {
     "mkdir users": "",
-    "ldbtool import users": "taken 3\n",
+    "ldbtool put --text users user:1 Ada": "",
+    "ldbtool put --text users user:2 Bob": "",
+    "ldbtool import users": "taken 1\n",
     "ldbtool get --text users user:1": "Ada\n",
     "ldbtool scan --text --values --prefix user: users": "user:1 Ada\nuser:2 Bob\n",
-    "ldbtool check users": "good\nlast-sequence 3\nlog 2 1 clean\n",
+    "ldbtool check users": "good\nlast-sequence 3\ntable 0 7 2\nlog 6 1 clean\n",
     "> script": "",
     "cat script": "open\nsnapshot\niter 1\ndel 757365723a31\nget 757365723a31\nget 757365723a31 1\n"
     "seek 1 757365723a\nclose\n",
     "ldbtool run users < script": "ok\nsnapshot 1\niter 1\nok\nnone\nvalue 416461\n"
     "at 757365723a31 416461\nok\n",
-    "ls users": "000002.log\n000004.log\nCURRENT\nLOCK\nMANIFEST-000003\n",
-    "ldbtool stats users": "comparator leveldb.BytewiseComparator\nrecorded-sequence 3\nnext-file 5\n"
-    + "".join(f"level {level} files 0 bytes 0\n" for level in range(7))
-    + "log 2 bytes 51\nlog 4 bytes 27\n",
+    "ls users": "000006.log\n000007.ldb\n000009.log\nCURRENT\nLOCK\nMANIFEST-000008\n",
+    "ldbtool stats users": "comparator leveldb.BytewiseComparator\nrecorded-sequence 3\nnext-file 10\n"
+    + "level 0 files 1 bytes 203\n"
+    + "".join(f"level {level} files 0 bytes 0\n" for level in range(1, 7))
+    + "log 6 bytes 27\nlog 9 bytes 27\n",
 }
 
 
