@@ -32,7 +32,7 @@ SOURCES := crates.txt \
 
 define HELP
 make demo       A first session of ldbtool over a real folder, build/demo. It uses build/ldbtool, or
-                else builds the program without its proof: some two minutes, the first time only.
+                else builds the program without its proof: two or three minutes, once.
 make quick      All tests that need no proof: minutes. Over the programs in build/, if they are
                 there, it also checks ldbtool, and compares it with LevelDB.
 make test       Everything: each proof from nothing, each test, the bugs that the prover must

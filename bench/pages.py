@@ -70,7 +70,7 @@ def others_of(rows, sizes):
     lines = [[f"`{workload}`", *(f"{digits(it[0])} / {digits(it[1])}" for it in taken.values())] for workload, taken in rows]
     most = [f"{max(taken[name][2] for _, taken in rows):.0f}" for name in names]
     files = [f"{sizes[name]:.1f}" for name in names]
-    return lined(["Workload", *names], *lines, ["most memory, MB", *most], ["files behind `settle`, MB", *files])
+    return lined(["Workload", *names], *lines, ["most memory, MB", *most], ["files after `settle`, MB", *files])
 
 
 def growth_of(sizes, rows):

@@ -1,5 +1,4 @@
--- What a power loss may leave of a directory. What is assumed of the disk (ext4 and XFS with
--- ordered data):
+-- What a power loss may leave of a directory. What is assumed of the disk:
 --
 -- - After a sync succeeds, what the file held then is on disk, and all names as they were then.
 -- - Later names reach the disk in the order of the calls that changed them: those of one moment are
@@ -7,7 +6,8 @@
 -- - Of each file a beginning of what was added to it is found, with what of it was synced at least.
 -- That holds whatever name the file has by then: what was moved is found under its old name or the
 -- new one, and what was removed or replaced may be back.
--- - Nothing else stands in a file: no byte that was never written to it.
+-- - Nothing else stands in a file: no byte that was never written to it. (On ext4 with default
+--   options that isn't so: it can leave zeros at a file's end.)
 use Rattle.std.specs.Prelude.{◌≡◌, ◌⊎◌, ◌≤◌, ℕ, Bool, true, false, List, [], ◌∷◌, ◌++◌, Option, Some, None, length, take, drop, if◌then◌else◌}
 use Rattle.std.specs.Cmp.Lexicographic.{slice_cmp}
 use Rattle.std.specs.FinMap.{get, contains_key}
