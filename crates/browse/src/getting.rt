@@ -1,6 +1,6 @@
 //! The values of keys, as text.
 
-ghost use Rattle.std.specs.Prelude.{◌≡◌, ◌++◌, IfOk, OnOk};
+ghost use Rattle.std.specs.Prelude.{◌≡◌, ◌++◌, IfOk, MatchBool, OnOk};
 ghost use Rattle.std.specs.Io.KnownBytes.{Appends};
 ghost use Rattle.ikey.specs.Orders.{order_of};
 ghost use Rattle.table.specs.Reading.{Reads};
@@ -90,12 +90,18 @@ fn print_each<K: KeyOrder, S: Store, W: Write, L: Listener>(
     let mut worst = FOUND;
     for key in keys {
         let one = print_key(alloc, reader, key, form, writer, listener)?;
-        if one == REFUSED {
+        if is_refused(one) {
             return Ok(REFUSED);
         }
         worst = worst.max(one);
     }
     Ok(worst)
+}
+
+fn is_refused(status: u8) -> bool
+    ensures { MatchBool result (status ≡ 1) (status ≡ 1 → ⊥) }
+{
+    status == REFUSED
 }
 
 // Prints the line of one key.

@@ -7,7 +7,13 @@ use Rattle.reader.specs.Readers.{facts_of}
 use Rattle.browse.specs.Browsing.{GetsAll}
 use Rattle.browse.proofs.Consistent.{open_refused}
 use Rattle.browse.proofs.Printed.{if_ok}
+use Rattle.browse.proofs.Values.{is_open}
 use Rattle.browse.proofs.getting.get_each.Goals as goal
+
+pub print_each-status-requires : goal.print_each-status-requires
+print_each-status-requires g c =
+    let opened = c.in-Ok.ensures in
+    record { stands = is_open (order_of g.K.KeyOrder.name g.K.KeyOrder.cmp) g.S.Store.facts (looked_at g.S.Store.facts c.args.store) c.in-Ok.reader opened.reads opened.shows opened.found }
 
 pub returns-in-Ok-clause-told : goal.returns-in-Ok-clause-told
 returns-in-Ok-clause-told g c =
