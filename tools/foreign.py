@@ -64,7 +64,7 @@ def not_permitted(room):
     with open(f"{hidden}/file", "wb"):
         pass
     told = "000077.ldb: can't be listed: Permission denied (os error 13)"
-    for name, printed, said in (("theirs", b"31\n", []), ("000077.ldb", b"refused 2 Io\n", [told])):
+    for name, printed, said in (("theirs", b"31\n", []), ("000077.ldb", b"", [told])):
         folder = database(room, f"with {name}")
         os.symlink(f"{hidden}/file", f"{folder}/{name}")
         os.chmod(folder, 0o755)
@@ -83,7 +83,9 @@ def named_loops(room):
         os.symlink(name, f"{folder}/{name}")
         for words in (["get", folder, "61"], ["check", folder], ["compact", folder]):
             ran, told = ldbtool(*words), f"{name}: can't be listed: Too many levels of symbolic links (os error 40)"
-            want((ran.stdout, where(ran, folder)), (lines("refused 2 Io"), [told]), f"{words[0]}: {name}")
+            # (a get says it on standard error alone)
+            printed = b"" if words[0] == "get" else lines("refused 2 Io")
+            want((ran.stdout, where(ran, folder)), (printed, [told]), f"{words[0]}: {name}")
 
 
 @check("a number that a folder, a pipe or a link to nothing has is given to no file")

@@ -1,6 +1,7 @@
 """Processes that take turns on one folder, for tools/turns: workers that live on, and readers."""
 import os
 import random
+import re
 import signal
 import subprocess
 import tempfile
@@ -11,8 +12,11 @@ from running import REASON, under_test
 
 SECONDS = 60
 
-# the status of a `get` that finds none
-NO_VALUE = 4
+# the status of a `get` that finds none, and the line of such a key beside others
+NO_VALUE, NO_LINE = 4, r"\N"
+
+# how standard error says a refusal
+REFUSAL = re.compile(r": (refused \d+ \w+)")
 
 KEYS = [b"a", b"b", b"c", b"d", b"ab", b"abc", b"x" * 40, b""]
 
@@ -77,7 +81,8 @@ class Reader:
     def __init__(self, shim, folder, verb, key, number):
         self.verb, self.key, self.number = verb, key, number
         words = {
-            "get": ["get", folder, word(key)], "scan": ["scan", "--values", folder],
+            # (one `-` alone would be standard input)
+            "get": ["get", folder, *([word(key)] if key else ["-", "-"])], "scan": ["scan", "--values", folder],
             "back": ["scan", "--values", "--reverse", folder], "export": ["export", folder],
         }[verb]  # fmt: skip
         self.counts = tempfile.NamedTemporaryFile()
@@ -103,14 +108,15 @@ class Reader:
             if said:
                 raise Wrong(f"{self} said {said[:200]!r} beside its answer")
             return self.read(lines), ""
-        if not lines or not lines[-1].startswith("refused ") or not said:
+        refusal = REFUSAL.search(said)
+        if not refusal or self.verb == "get" and lines:
             how = f"status {self.process.returncode}, printed {lines[-1:]} and said {said[:200]!r}"
             raise Wrong(f"{self} ended with {how}")
-        return None, f"{lines[-1]}: {said.strip()}"
+        return None, f"{refusal[1]}: {said.strip()}"
 
     def read(self, lines):
         if self.verb == "get":
-            return text_of(lines[0]) if lines else None
+            return text_of(lines[0]) if lines and lines[0] != NO_LINE else None
         pairs = [it.removeprefix("put ").split(" ") for it in lines]
         keys = [text_of(key) for key, _ in pairs]
         if keys != sorted(set(keys), reverse=self.verb == "back"):
