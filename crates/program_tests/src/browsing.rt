@@ -1,12 +1,12 @@
 // What `get` and `scan` print of a directory in memory.
 use batch::Batch;
 use browse::{Choice, Form, Showing, Style, get, get_each, puts_are_read, range_of, scan};
-use coding::DbError;
+use coding::{Bytes, DbError};
 use engine::{Db, Ids, KeyRange, Mode, Options};
 use ikey::{Bytewise, KeyOrder, ReverseBytes};
 use reader::ReadOnly;
 use script::Nobody;
-use std::alloc::{AllocGlobal, Global};
+use std::alloc::{AllocError, AllocGlobal, Global};
 use std::test::Fail;
 use store::{MemStore, Store, StoreError};
 

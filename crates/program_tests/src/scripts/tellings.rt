@@ -1,5 +1,5 @@
 // What a listener is told of refusals.
-use browse::{Form, get};
+use browse::{Form, Showing, get};
 use coding::DbError;
 use engine::{Options, Session};
 use ikey::Bytewise;
@@ -85,7 +85,7 @@ fn gets(alloc: Global, heard: &mut Heard) {
         alloc,
         store,
         b"a",
-        Form::Hex,
+        Showing::Line(Form::Hex),
         &mut out,
         heard,
     );
