@@ -255,7 +255,7 @@ fn are_listed(
 ) -> Result<bool, DbError> {
     let keys = keys_of(alloc, keys)?;
     let mut printed = Vec::new(alloc);
-    let (found, _) = get_each::<Bytewise, MemStore, Vec<u8>, Nobody>(
+    let (found, _store) = get_each::<Bytewise, MemStore, Vec<u8>, Nobody>(
         alloc,
         ReadOnly::over(store),
         &keys,
