@@ -71,7 +71,7 @@ fn push_fragments<'a>(fragments: &mut Vec<Fragment<'a>>, block: &'a [u8]) -> Res
     Ok(rest.len() < room)
 }
 
-// Returns whether each byte is zero.
+/// Returns whether each byte is zero.
 pub fn are_zeros(bytes: &[u8]) -> bool
     ensures { MatchBool result (EachIndex bytes.now (λ k. slice_index bytes.now k ≡ 0)) (EachIndex bytes.now (λ k. slice_index bytes.now k ≡ 0) → ⊥) }
 {
