@@ -42,6 +42,9 @@ make build      Proves the programs, and puts them into build/: an hour or more 
 make install    Puts ldbtool, its manual page, completion for bash and zsh, documents and licences
                 below PREFIX (/usr/local), which lies in DESTDIR (none).
 make uninstall  Removes them.
+make lib        Proves the C library, and puts it into build/. make lib-unproved makes it without a
+                proof, into build/unproved. make lib-check tries it, in C, Rust and Python: a minute.
+make lib-install    Puts it below PREFIX, with its pkg-config file. make lib-uninstall removes it.
 make deb        Makes a Debian package of the same in build/. It needs dpkg-dev and binutils.
 make program    Checks ldbtool as users run it: scripts, pipes, wrong folders, examples. A minute.
 make stops      Rebuilds the states after crashes and power losses, and opens each. Under a minute.
@@ -73,8 +76,8 @@ quick: needs-rt
 build: needs-rt
 	echo 'Proving $(PROGRAMS) and all below: an hour or more from nothing, on four processors.'
 	mkdir -p build
-	tools/libraries $(PROGRAMS)
-	for program in $(PROGRAMS); do tools/proved $$program || exit 1; done
+	tools/proofs/libraries $(PROGRAMS)
+	for program in $(PROGRAMS); do tools/proofs/proved $$program || exit 1; done
 
 build/ldbtool: $(SOURCES)
 	$(MAKE) --no-print-directory build PROGRAMS=ldbtool
@@ -102,16 +105,16 @@ deb: $(LDBTOOL)
 	tools/deb '$(LDBTOOL)' '$(or $(DEB),build)'
 
 program: build/ldbtool
-	tools/program build/ldbtool
+	tools/checks/program build/ldbtool
 
 stops: build/ldbtool
-	tools/stops
+	tools/faults/stops
 
 soak: build/ldbtool
-	tools/soak $(if $(SECONDS),--seconds $(SECONDS))
-	tools/stops --seconds $(or $(SECONDS),600)
-	tools/turns --seconds $(or $(SECONDS),600)
-	tools/damage $(if $(SECONDS),--seconds $(SECONDS),--count 2000)
+	tools/faults/soak $(if $(SECONDS),--seconds $(SECONDS))
+	tools/faults/stops --seconds $(or $(SECONDS),600)
+	tools/faults/turns --seconds $(or $(SECONDS),600)
+	tools/faults/damage $(if $(SECONDS),--seconds $(SECONDS),--count 2000)
 
 interop: needs-rt
 	interop/run
@@ -123,10 +126,10 @@ test: needs-rt
 	tools/gate $(if $(FULL),--full)
 
 bugs: needs-rt
-	tools/bugs $(CRATE)
+	tools/proofs/bugs $(CRATE)
 
 costs: needs-rt
-	tools/costs $(CRATE)
+	tools/proofs/costs $(CRATE)
 
 clean:
 	rm -rf build crates/*/out
@@ -136,3 +139,5 @@ needs-rt:
 	  { echo 'python3 is missing (3.8 or later): apt-get install python3' >&2; exit 1; }
 	test -n "$(RT)" || \
 	  { echo 'rt, the Rattle toolchain, is not on PATH: put the bin/ of the kit there' >&2; exit 1; }
+
+include tools/library.mk

@@ -10,9 +10,10 @@ _ldbtool_options() {
         check) echo "--keep-going --order= --help" ;;
         stats) echo "--json --order= --help" ;;
         dump) echo "--text --json --keep-going --order= --help" ;;
-        run) echo "--work= --strict $sizes --order= --help" ;;
-        import) echo "--batch= --sync --create $sizes --order= --help" ;;
-        compact) echo "--level= $sizes --order= --help" ;;
+        run) echo "--work= --strict --mend $sizes --order= --help" ;;
+        import) echo "--batch= --sync --create --mend $sizes --order= --help" ;;
+        compact) echo "--level= --mend $sizes --order= --help" ;;
+        mend) echo "--dry-run --holes --order= --help" ;;
         put | del) echo "--text --order= --help" ;;
     esac
 }
@@ -83,7 +84,7 @@ _ldbtool_rest() {
 }
 
 _ldbtool() {
-    local words last verbs="get scan export stats check dump run import compact put del"
+    local words last verbs="get scan export stats check dump run import compact put del mend"
     COMPREPLY=()
     _ldbtool_words
     case ${words[0]-} in

@@ -1,5 +1,6 @@
 """What the checks of this folder share: their list, the programs under test, LevelDB, and
 folders."""
+import contextlib
 import functools
 import os
 import re
@@ -9,8 +10,12 @@ import subprocess
 import sys
 import tempfile
 
-sys.path.append(os.path.join(os.path.dirname(os.path.dirname(os.path.abspath(__file__))), "tools"))
-from listed import CHECKS, Wrong, check, parser, run_checks  # noqa: E402,F401  pylint: disable=wrong-import-position,unused-import
+sys.path[1:1] = [f"{sys.path[0]}/../tools{it}" for it in ("", "/checks", "/faults")]
+from files import BLOCK, bytes_of, new_folder  # noqa: F401
+from judged import pairs_of  # noqa: F401
+from listed import CHECKS, Wrong, check, parser, run_checks  # noqa: F401
+from machine import word  # noqa: F401
+from running import SECONDS
 
 
 class Order:
@@ -47,13 +52,10 @@ def in_reverse(function):
     return turned
 
 
-SECONDS = 60
-
 # what quickstart writes
 KEY = "61"
 WRITTEN = "31"
 
-BLOCK = 32768
 FRAGMENT_HEADER = 7
 
 
@@ -65,6 +67,10 @@ def want(holds, text):
 def short(text):
     text = text.strip().replace("\n", " | ")
     return text if len(text) <= 160 else text[:157] + "..."
+
+
+def joined(lines):
+    return "".join(f"{line}\n" for line in lines)
 
 
 # ---- the programs
@@ -90,8 +96,7 @@ def prints(verb, folder, script=None, flags=()):
 
 def want_answers(folder, script, wanted, whose, flags=()):
     """Runs a script, one answer a line, over the folder itself."""
-    found = prints("run", folder, "".join(line + "\n" for line in script), flags)
-    want_lines(found, "".join(line + "\n" for line in wanted), whose)
+    want_lines(prints("run", folder, joined(script), flags), joined(wanted), whose)
 
 
 def quickstart(folder):
@@ -116,37 +121,37 @@ def refused(folder, name):
     want(contents(folder) == before, "a refused quickstart changed the folder")
 
 
+def leveldb(verb, folder, *flags, lines=()):
+    """Returns what LevelDB prints, over the folder itself."""
+    ran = run([Programs.leveldb, verb, *Programs.order.theirs, *flags, folder], input=joined(lines))
+    want(ran.returncode == 0, f"LevelDB did not {verb}: {short(ran.stderr)}")
+    return ran.stdout
+
+
 def leveldb_writes(folder, lines, *flags):
-    ran = run([Programs.leveldb, "write", *flags, folder], input="".join(line + "\n" for line in lines))
-    want(ran.returncode == 0, f"LevelDB did not write: {short(ran.stderr)}")
+    leveldb("write", folder, *flags, lines=lines)
 
 
 def leveldb_reads(folder, *flags):
     """Returns what LevelDB finds in a copy of the folder, as a map."""
     with tempfile.TemporaryDirectory(prefix="interop-") as room:
-        copy = copied(folder, room)
-        ran = run([Programs.leveldb, "dump", *Programs.order.theirs, *flags, copy])
-        want(ran.returncode == 0, f"LevelDB did not open the folder: {short(ran.stderr)}")
-    pairs = [line.split(" ") for line in ran.stdout.splitlines()]
+        printed = leveldb("dump", copied(folder, room), *flags)
+    pairs = [line.split(" ") for line in printed.splitlines()]
     keys = [bytes.fromhex(key.replace("-", "")) for key, _ in pairs]
     want(keys == sorted(set(keys), reverse=Programs.order.turned), "LevelDB's keys do not rise")
     return dict(pairs)
 
 
-def leveldb(verb, folder, *flags, lines=()):
-    """Returns what LevelDB prints, over the folder itself."""
-    ran = run([Programs.leveldb, verb, *Programs.order.theirs, *flags, folder], input="".join(line + "\n" for line in lines))
-    want(ran.returncode == 0, f"LevelDB did not {verb}: {short(ran.stderr)}")
-    return ran.stdout
+@contextlib.contextmanager
+def held_by_leveldb(folder):
+    """Has LevelDB hold the folder open while the body runs."""
+    words = [Programs.leveldb, "hold", *Programs.order.theirs, "--reuse", folder]
+    with subprocess.Popen(words, stdin=subprocess.PIPE, stdout=subprocess.PIPE, text=True) as holder:
+        want(holder.stdout.readline() == "held\n", "LevelDB did not open the folder")
+        yield
 
 
 # ---- folders
-
-
-def new_folder(room, name="folder"):
-    folder = os.path.join(room, name)
-    os.mkdir(folder)
-    return folder
 
 
 def copied(folder, room):
@@ -168,9 +173,12 @@ def files_of(folder, ending):
     return sorted(name for name in os.listdir(folder) if name.endswith(ending))
 
 
-def bytes_of(path):
-    with open(path, "rb") as file:
-        return file.read()
+def flip(path, place, mask):
+    with open(path, "r+b") as file:
+        file.seek(place)
+        byte = file.read(1)[0]
+        file.seek(place)
+        file.write(bytes([byte ^ mask]))
 
 
 def last_log(folder):
@@ -193,10 +201,6 @@ def operations_in(opens):
 
 
 # ---- what was found
-
-
-def spelled(found):
-    return found.hex() or "-"
 
 
 def want_map(found, wanted):

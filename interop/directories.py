@@ -9,22 +9,25 @@ import os
 import random
 import re
 import shutil
-import subprocess
 import tempfile
 
 from beside import (
     BYTES,
     REVERSE,
-    SECONDS,
     Programs,
     bytes_of,
     check,
     contents,
     copied,
     files_of,
+    flip,
+    held_by_leveldb,
+    joined,
     ldbtool,
     leveldb,
     leveldb_reads,
+    new_folder,
+    pairs_of,
     prints,
     short,
     want,
@@ -32,7 +35,7 @@ from beside import (
     want_lines,
     want_map,
 )
-from layout import Layout, pairs_of, want_dump
+from layout import Layout, want_dump
 
 # the directories of each order
 SEEDS = {BYTES: range(1, 21), REVERSE: range(21, 29)}
@@ -83,14 +86,6 @@ def dumped(_room):
 
 
 # ---- a byte that was changed
-
-
-def flip(path, place, mask):
-    with open(path, "r+b") as file:
-        file.seek(place)
-        byte = file.read(1)[0]
-        file.seek(place)
-        file.write(bytes([byte ^ mask]))
 
 
 @check("directories: a check refuses a table with a changed byte, wherever it lies")
@@ -186,7 +181,7 @@ def worked(_room):
                 more = {chance.randbytes(2).hex(): chance.randbytes(chance.randrange(1, 300)).hex() for _ in range(60)}
                 pairs.update(more)
                 script = ["open", *[f"put {key} {value}" for key, value in more.items()], *["work 100000" for _ in range(60)], "close"]
-                answers = prints("run", copy, "".join(line + "\n" for line in script), ["--write-buffer", "4096"]).splitlines()
+                answers = prints("run", copy, joined(script), ["--write-buffer", "4096"]).splitlines()
                 want(answers.count("worked") >= 2 and answers[-2] == "idle", f"seed {seed}: work answers {answers[-61:-1]}")
                 layout = Layout(copy)
                 want_lines(prints("check", copy), layout.report(), f"seed {seed}")
@@ -213,20 +208,14 @@ def logs_alone(room):
 
 @check("directories: one that LevelDB holds is checked and not opened, an empty one is empty, a missing one a fault")
 def no_lock(room):
-    empty = os.path.join(room, "empty")
-    os.mkdir(empty)
+    empty = new_folder(room, "empty")
     for verb, printed in ("check", "empty\n"), ("dump", ""):
         ran = ldbtool(verb, empty)
         want((ran.returncode, ran.stdout) == (0, printed) and "no CURRENT" in ran.stderr, f"{verb} doesn't say that an empty folder is empty")
     held = copied(history(seeds()[0]), room)
-    holder = subprocess.Popen([Programs.leveldb, "hold", *Programs.order.theirs, "--reuse", held], stdin=subprocess.PIPE, stdout=subprocess.PIPE, text=True)
-    try:
-        want(holder.stdout.readline() == "held\n", "LevelDB did not open the folder")
+    with held_by_leveldb(held):
         want(prints("check", held).startswith("good\n"), "a folder that LevelDB holds is not good")
         want_answers(held, ["open", "close"], ["refused 18 Locked", "refused 16 NotOpen"], "a script")
-    finally:
-        holder.stdin.close()
-        holder.wait(SECONDS)
     ran = ldbtool("check", os.path.join(room, "none"))
     want(ran.returncode == 1 and ran.stdout == "" and ran.stderr != "", f"a missing folder: {short(ran.stdout + ran.stderr)}")
     forget_histories()

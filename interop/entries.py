@@ -1,7 +1,7 @@
 """Entries of tables, drawn by a seed, and each one's form in scripts, in dumps and for LevelDB."""
 import random
 
-from beside import spelled, want
+from beside import want, word
 
 
 class Entry:
@@ -15,12 +15,12 @@ class Entry:
 
     def line(self):
         """Returns the line of a dump, after the table's level and number."""
-        end = "delete" if self.value is None else f"put {spelled(self.value)}"
-        return f"{spelled(self.key)} {self.sequence} {end}\n"
+        end = "delete" if self.value is None else f"put {word(self.value)}"
+        return f"{word(self.key)} {self.sequence} {end}\n"
 
     def write(self):
         """Returns the line that writes it, for LevelDB's driver and for a script."""
-        return f"del {spelled(self.key)}" if self.value is None else f"put {spelled(self.key)} {spelled(self.value)}"
+        return f"del {word(self.key)}" if self.value is None else f"put {word(self.key)} {word(self.value)}"
 
 
 def lines_of(entries):
@@ -34,7 +34,7 @@ def newest(entries):
 
 def map_of(entries):
     """Returns what a database of these entries has."""
-    return {spelled(entry.key): spelled(entry.value) for entry in newest(entries) if entry.value is not None}
+    return {word(entry.key): word(entry.value) for entry in newest(entries) if entry.value is not None}
 
 
 def rows_of(entries):

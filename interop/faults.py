@@ -17,6 +17,8 @@ from beside import (
     check,
     copied,
     files_of,
+    flip,
+    held_by_leveldb,
     last_log,
     leveldb_reads,
     leveldb_writes,
@@ -44,14 +46,19 @@ def cut_alike(room, lines, behind):
     leveldb_writes(made, lines[-1:], "--reuse")
     end = os.path.getsize(last_log(made))
     for cut in sorted({start + more for more in behind(end - start)}):
-        with tempfile.TemporaryDirectory(prefix="interop-") as inner:
-            folder = copied(made, inner)
-            os.truncate(last_log(folder), cut)
-            wanted = leveldb_reads(folder)
-            before, _ = quickstart(folder)
-            found = wanted.get(KEY, "none")
-            want(before == found, f"cut at byte {cut} of {end} quickstart printed {short(before)}, LevelDB has {short(found)}")
-            want_map(leveldb_reads(folder), {**wanted, KEY: WRITTEN})
+        want_read_alike(made, cut)
+
+
+def want_read_alike(made, cut):
+    """Has both read a copy of the folder whose last log is cut to so many bytes."""
+    with tempfile.TemporaryDirectory(prefix="interop-") as inner:
+        folder = copied(made, inner)
+        os.truncate(last_log(folder), cut)
+        wanted = leveldb_reads(folder)
+        before, _ = quickstart(folder)
+        found = wanted.get(KEY, "none")
+        want(before == found, f"cut at byte {cut} quickstart printed {short(before)}, LevelDB has {short(found)}")
+        want_map(leveldb_reads(folder), {**wanted, KEY: WRITTEN})
 
 
 @check("a torn tail: a record of one fragment, cut at each byte")
@@ -79,13 +86,7 @@ def torn_ours(room):
     leveldb_writes(made, ["put 62 32", f"put {KEY} 3838"])
     _, log = quickstart(made)
     for cut in range(len(log) + 1):
-        with tempfile.TemporaryDirectory(prefix="interop-") as inner:
-            folder = copied(made, inner)
-            os.truncate(last_log(folder), cut)
-            wanted = leveldb_reads(folder)
-            before, _ = quickstart(folder)
-            want(before == wanted[KEY], f"cut at byte {cut} quickstart printed {short(before)}, LevelDB has {short(wanted[KEY])}")
-            want_map(leveldb_reads(folder), {**wanted, KEY: WRITTEN})
+        want_read_alike(made, cut)
 
 
 @check("a changed byte: both refuse the log")
@@ -95,11 +96,7 @@ def changed_byte(room):
     for at in (0, 3, 6, 9, 20):
         with tempfile.TemporaryDirectory(prefix="interop-") as inner:
             folder = copied(made, inner)
-            with open(last_log(folder), "r+b") as file:
-                file.seek(at)
-                byte = file.read(1)[0]
-                file.seek(at)
-                file.write(bytes([byte ^ 0x40]))
+            flip(last_log(folder), at, 0x40)
             refused(folder, "Corrupt")
             ran = run([Programs.leveldb, "dump", folder])
             want(ran.returncode == 1, f"LevelDB reads a log whose byte {at} was changed")
@@ -112,13 +109,8 @@ def changed_byte(room):
 def quickstart_against_leveldb(room):
     folder = os.path.join(room, "folder")
     leveldb_writes(folder, [f"put {KEY} 3838"])
-    holder = subprocess.Popen([Programs.leveldb, "hold", "--reuse", folder], stdin=subprocess.PIPE, stdout=subprocess.PIPE, text=True)
-    try:
-        want(holder.stdout.readline() == "held\n", "LevelDB did not open the folder")
+    with held_by_leveldb(folder):
         refused(folder, "Locked")
-    finally:
-        holder.stdin.close()
-        holder.wait(SECONDS)
     before, _ = quickstart(folder)
     want(before == "3838", f"once LevelDB has let go, quickstart printed {short(before)}")
 

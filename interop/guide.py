@@ -1,5 +1,5 @@
 """Checks of docs/GUIDE.md where LevelDB is needed: its recipes with plyvel, and its example of a
-refusal. `tools/guided.py` has the others."""
+refusal. `tools/checks/guided.py` has the others."""
 import os
 import re
 

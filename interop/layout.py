@@ -2,7 +2,7 @@
 DumpFile prints them."""
 import os
 
-from beside import files_of, leveldb, want_lines
+from beside import files_of, joined, leveldb, want_lines
 
 
 def escaped(text):
@@ -61,7 +61,7 @@ class Layout:
             batches = self.batches(number)
             last = max([last, *[sequence + count - 1 for sequence, count in batches]])
             logs.append(f"log {number} {len(batches)} clean")
-        return "".join(line + "\n" for line in ["good", f"last-sequence {last}", *tables, *logs])
+        return joined(["good", f"last-sequence {last}", *tables, *logs])
 
 
 def like_table(line):
@@ -82,15 +82,3 @@ def want_dump(layout, text):
         wanted += [line for line in dumped_by_leveldb(layout.path(number, "log")) if not line.startswith("--- offset")]
     found = [like_table(line) for line in text.splitlines()]
     want_lines("\n".join(found), "\n".join(wanted), "the dump")
-
-
-def pairs_of(text):
-    """Returns the pairs that the newest entries of a dump make."""
-    newest = {}
-    for line in text.splitlines():
-        words = line.split()
-        at = 3 if words[0] == "table" else 2
-        key, sequence = words[at], int(words[at + 1])
-        if sequence > newest.get(key, (-1,))[0]:
-            newest[key] = (sequence, words[at + 3] if words[at + 2] == "put" else None)
-    return {key: value for key, (_, value) in newest.items() if value is not None}

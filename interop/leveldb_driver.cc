@@ -215,21 +215,28 @@ int Maps(Database database) {
   return 0;
 }
 
+// Reads the key of the next line, if there is one. A line without a key is told, and is the last.
+bool NextKey(std::string* key, int* ended) {
+  std::string line;
+  if (!std::getline(std::cin, line)) return false;
+  if (FromHex(line, key)) return true;
+  std::cerr << "no key: " << line << "\n";
+  *ended = kMisused;
+  return false;
+}
+
 int Get(const Database& database) {
   std::unique_ptr<leveldb::DB> db;
   leveldb::Status status = Open(database, false, &db);
   if (!status.ok()) return Refuse(status);
-  for (std::string line, key, value; std::getline(std::cin, line);) {
-    if (!FromHex(line, &key)) {
-      std::cerr << "no key: " << line << "\n";
-      return kMisused;
-    }
+  int ended = 0;
+  for (std::string key, value; NextKey(&key, &ended);) {
     status = db->Get(database.reads, key, &value);
     const bool refused = !status.ok() && !status.IsNotFound();
     if (refused && !database.goes_on) return Refuse(status);
     std::cout << (refused ? "refused" : status.ok() ? ToHex(value) : "none") << "\n";
   }
-  return 0;
+  return ended;
 }
 
 int Seek(const Database& database) {
@@ -237,16 +244,13 @@ int Seek(const Database& database) {
   const leveldb::Status status = Open(database, false, &db);
   if (!status.ok()) return Refuse(status);
   std::unique_ptr<leveldb::Iterator> pairs(db->NewIterator(database.reads));
-  for (std::string line, key; std::getline(std::cin, line);) {
-    if (!FromHex(line, &key)) {
-      std::cerr << "no key: " << line << "\n";
-      return kMisused;
-    }
+  int ended = 0;
+  for (std::string key; NextKey(&key, &ended);) {
     pairs->Seek(key);
     if (!pairs->status().ok()) return Refuse(pairs->status());
     std::cout << (pairs->Valid() ? ToHex(pairs->key()) + " " + ToHex(pairs->value()) : "end") << "\n";
   }
-  return 0;
+  return ended;
 }
 
 int Compact(const Database& database) {
@@ -355,7 +359,7 @@ int Script(const Database& database) {
       std::cerr << "no line of a script: " << line << "\n";
       return kMisused;
     }
-    // (by the call that tools/recording_calls.c sees)
+    // (by the call that tools/faults/recording_calls.c sees)
     const std::string text = answer + "\n";
     if (write(STDOUT_FILENO, text.data(), text.size()) < 0) return kRefused;
   }

@@ -1,6 +1,6 @@
 """Checks of what a crash and a power loss may leave of ldbtool's sessions and of LevelDB's, by the
-recording and the model of tools/stops (tools/recorded.py, tools/remains.py). LevelDB's own work
-goes on while a script runs."""
+recording and the model of tools/faults/stops (tools/faults/recorded.py, tools/faults/remains.py).
+LevelDB's own work goes on while a script runs."""
 import collections
 import functools
 import os
@@ -10,7 +10,7 @@ from beside import CHECKS, Programs, check, last_log, ldbtool, leveldb_reads, le
 from opened import Opener, found_by_ldbtool
 from promises import Story, breach_of_loss, breach_of_stop, is_synced, keys_in
 from recorded import Recording, files_in
-from remains import History, losses, losses_in_any_order, stops
+from remains import History, losses, losses_in_any_order, stops, zeroed_losses
 from running import under_test
 from shims import built_shim
 
@@ -56,22 +56,18 @@ def recorded(room, whose, script):
 # ---- what both find in what is left
 
 
-class Readers:
+class Readers(Opener):
     """Opens what is left by both, each state once, and checks that they find the same. It returns
     what the one finds whose session it is."""
 
-    def __init__(self, opener):
-        self.opener, self.known, self.whose = opener, {}, OURS
+    whose = OURS
 
     def found(self, files):
-        key = hash(frozenset(files.items()))
-        if key not in self.known:
-            self.known[key] = self.opened(files)
-        ours, theirs = self.known[key]
+        ours, theirs = super().found(files)
         return ours if self.whose == OURS else theirs
 
     def opened(self, files):
-        ours, theirs = (self.opener.opened_by(it, files) for it in (found_by_ldbtool, self.opener.leveldb.found))
+        ours, theirs = (self.opened_by(it, files) for it in (found_by_ldbtool, self.leveldb.found))
         if is_without_current(files):
             want(ours.refusal, "we take a folder with a log or a table and without CURRENT")
         else:
@@ -158,8 +154,7 @@ def power(script, seen, room):
     """Runs a session of each. Every crash must leave all that was answered, and power losses what
     is written above."""
     under_test(Programs.ldbtool)
-    with Opener(room, Programs.leveldb) as opener:
-        readers = Readers(opener)
+    with Readers(room, Programs.leveldb) as readers:
         told = [f"{whose} {', '.join(shares(room, whose, script, wanted, readers))}" for whose, wanted in seen.items()]
     return f"not as promised on each device: {'; '.join(told)}"
 
@@ -177,7 +172,7 @@ def shares(room, whose, script, wanted, readers):
         yield f"{count - found[HELD]}/{count}"
 
 
-@check("known difference: zeros behind a log's records are refused as Corrupt")
+@check("known difference: zeros behind a log's records are refused as Corrupt, until they are mended")
 def zeros(room):
     """Checks zeros in a log, which a device may leave that keeps a file's length before its
     bytes."""
@@ -188,6 +183,27 @@ def zeros(room):
     want_map(leveldb_reads(folder), {"61": "01", "62": "02"})
     ran = ldbtool("check", folder)
     want((ran.returncode, ran.stdout) == (1, "refused 5 Corrupt\n"), f"a check answers {ran.stdout!r}, status {ran.returncode}")
+    ran = ldbtool("mend", folder)
+    want((ran.returncode, ran.stdout.endswith(" zeros 24 broken 0\n")) == (0, True), f"mend answers {ran.stdout!r}, status {ran.returncode}")
+    want(ldbtool("check", folder).returncode == 0, "a check behind it is refused")
+    want_map(leveldb_reads(folder), {"61": "01", "62": "02"})
+
+
+@check("what power losses leave with zeros, of ldbtool's files and of LevelDB's own, is read the same by both once it is mended")
+def mended(room):
+    under_test(Programs.ldbtool)
+    told = []
+    with Readers(room, Programs.leveldb) as readers:
+        for readers.whose in (OURS, THEIRS):
+            recording = recorded(room, readers.whose, TABLES)
+            history = History(recording, recording.calls(), keeps_names=True)
+            story, states = Story(recording, history), list(zeroed_losses(history, random.Random(SEED), 100))
+            left = [(it, readers.mended(it.files)) for it in states]
+            for it, files in left:
+                found = kind(story, it, readers.found(files))
+                want(found == HELD, f"{readers.whose}, {it.way}: {found}")
+            told.append(f"{sum(files != it.files for it, files in left)} of {len(left)} of {readers.whose} were mended")
+    return ", ".join(told)
 
 
 for name, (script_of, seen_of) in SEEN.items():

@@ -17,15 +17,16 @@ from beside import (
     check,
     copied,
     files_of,
+    joined,
     ldbtool,
     leveldb,
     new_folder,
     prints,
     short,
-    spelled,
     want,
     want_answers,
     want_lines,
+    word,
 )
 from entries import Entry, a_value, by_sequence, lines_of, map_of, newest, rows_of, some_entries, some_keys
 
@@ -70,7 +71,7 @@ def same_small_table(room):
     flushed, compacted, theirs = new_folder(room, "flushed"), new_folder(room, "compacted"), os.path.join(room, "other")
     entries = [Entry(bytes.fromhex(KEY), 1, bytes.fromhex(WRITTEN))]
     (name,) = leveldb_tables(theirs, entries, "--filter")
-    wanted = bytes_of(os.path.join(theirs, name))
+    wanted = bytes_of(theirs, name)
     want(len(wanted) == 176, f"LevelDB's table has {len(wanted)} bytes")
     our_table(flushed, entries, 4096)
     # `work` removes the table that the compaction has read
@@ -79,7 +80,7 @@ def same_small_table(room):
     want(dumped(compacted) == {5: [f"{KEY} 1 put {WRITTEN}\n"]}, f"a compaction left {dumped(compacted)}")
     for folder in (flushed, compacted):
         (name,) = files_of(folder, ".ldb")
-        found = bytes_of(os.path.join(folder, name))
+        found = bytes_of(folder, name)
         want(found == wanted, f"LevelDB's table is {wanted.hex()}, ours {found.hex()}")
 
 
@@ -106,8 +107,8 @@ def same_large_table(room):
         folder = new_folder(room, f"ours{block_bytes}")
         other = os.path.join(room, f"theirs{block_bytes}")
         (name,) = leveldb_tables(other, entries, "--filter", f"--block-bytes={block_bytes}")
-        wanted = bytes_of(os.path.join(other, name))
-        found = bytes_of(os.path.join(folder, our_table(folder, entries, block_bytes)))
+        wanted = bytes_of(other, name)
+        found = bytes_of(folder, our_table(folder, entries, block_bytes))
         at = next((at for at, pair in enumerate(zip(found, wanted)) if pair[0] != pair[1]), min(len(found), len(wanted)))
         want(found == wanted, f"blocks of {block_bytes}: {len(found)} and {len(wanted)} bytes, other from byte {at} on")
 
@@ -115,17 +116,17 @@ def same_large_table(room):
 def read_by_leveldb(folder, name, entries, seed):
     """Has LevelDB read all of our table, the only one of a database, in every way."""
     chance = random.Random(seed)
-    wanted, before = map_of(entries), bytes_of(os.path.join(folder, name))
+    wanted, before = map_of(entries), bytes_of(folder, name)
     rows = [f"{key} {value}\n" for key, value in rows_of(entries)]
     want_lines(leveldb("dump", folder, "--filter"), "".join(rows), "LevelDB, forwards")
     want_lines(leveldb("dump", folder, "--filter", "--backwards"), "".join(reversed(rows)), "LevelDB, backwards")
-    keys = [spelled(entry.key) for entry in newest(entries)]
-    keys += [spelled(bytes.fromhex(key.replace("-", "")) + chance.randbytes(1)) for key in keys]
+    keys = [word(entry.key) for entry in newest(entries)]
+    keys += [word(bytes.fromhex(key.replace("-", "")) + chance.randbytes(1)) for key in keys]
     chance.shuffle(keys)
     gets = "".join(wanted.get(key, "none") + "\n" for key in keys)
     want_lines(leveldb("get", folder, "--filter", lines=keys), gets, "LevelDB's gets")
     kept = files_of(folder, ".ldb") + files_of(folder, ".sst")
-    want(kept == [name] and bytes_of(os.path.join(folder, name)) == before, "LevelDB did not read our table as it is")
+    want(kept == [name] and bytes_of(folder, name) == before, "LevelDB did not read our table as it is")
 
 
 @check("tables, ours to theirs: in our database, and alone where it is repaired into one, LevelDB reads each entry, in every way")
@@ -225,9 +226,9 @@ def want_walk_or_refusal(folder, rows, what):
     script = ["open", "iter", "first 1", *["next 1" for _ in rows]]
     wanted = ["ok", "iter 1", *[f"at {key} {value}" for key, value in rows], "end"]
     with tempfile.TemporaryDirectory(prefix="interop-") as room:
-        found = prints("run", copied(folder, room), "".join(line + "\n" for line in script)).splitlines(keepends=True)
+        found = prints("run", copied(folder, room), joined(script)).splitlines(keepends=True)
     right = next((at for at, line in enumerate(found) if line.startswith("refused ")), len(found))
-    want_lines("".join(found[:right]), "".join(line + "\n" for line in wanted[:right]), f"{what}, a walk")
+    want_lines("".join(found[:right]), joined(wanted[:right]), f"{what}, a walk")
     want(right == len(wanted) or REFUSED.fullmatch(found[right]) is not None, f"{what}, a walk: {short(str(found[right:][:1]))}")
     return right < len(wanted)
 

@@ -3,11 +3,10 @@ own rules.
 
 The directory has what was written to it. After each turn both must find exactly that.
 """
-import os
 import random
 
-from beside import check, files_of, leveldb, leveldb_reads, prints, want, want_lines, want_map
-from layout import Layout, pairs_of
+from beside import check, files_of, joined, leveldb, leveldb_reads, new_folder, pairs_of, prints, want, want_lines, want_map
+from layout import Layout
 
 SEEDS = (1, 2, 3)
 TURNS = 80
@@ -42,7 +41,7 @@ def our_turn(folder, chance, pairs):
     if chance.random() < 0.1:
         script.append(f"compact {chance.choice((0, 1, 2, 3, 'all'))}")
     script += [f"work {chance.choice((1, 7, 1000))}" for _ in range(chance.choice((0, 5, 60)))]
-    answers = prints("run", folder, "".join(line + "\n" for line in script), SIZES).splitlines()
+    answers = prints("run", folder, joined(script), SIZES).splitlines()
     wrong = [line for line in answers if line not in ("ok", "worked", "idle")]
     want(len(answers) == len(script) and not wrong, f"a turn of ours is answered {wrong[:3]}, {len(answers)} of {len(script)} lines")
 
@@ -69,8 +68,7 @@ def want_both(folder, pairs, turn, whole):
 def turns(room):
     for seed in SEEDS:
         chance, pairs, levels = random.Random(seed), {}, set()
-        folder = os.path.join(room, str(seed))
-        os.mkdir(folder)
+        folder = new_folder(room, str(seed))
         for turn in range(TURNS):
             (our_turn if turn == 0 or chance.random() < 0.6 else their_turn)(folder, chance, pairs)
             levels |= {level for level, _ in want_both(folder, pairs, f"{turn} of {seed}", turn % 10 == 9).tables}

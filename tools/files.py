@@ -1,5 +1,5 @@
 """Makes files of a LevelDB directory by hand from the format (docs/FORMATS.md), for the checks of
-tools/program."""
+tools/checks/program."""
 import os
 import struct
 from dataclasses import dataclass, field
@@ -163,7 +163,7 @@ def new_folder(room, name="folder"):
     return folder
 
 
-def bytes_of(folder, name):
+def bytes_of(folder, name=""):
     with open(os.path.join(folder, name) if name else folder, "rb") as file:
         return file.read()
 

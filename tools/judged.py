@@ -1,5 +1,5 @@
-"""What tools/refusals and tools/program ask of a directory in which something was refused. A check
-must accept it, and it must hold what the plain model has."""
+"""What tools/faults/refusals and tools/checks/program ask of a directory in which something was
+refused. A check must accept it, and it must hold what the plain model has."""
 import subprocess
 
 from listed import Wrong
@@ -19,6 +19,18 @@ def held(folder, count):
     if status or answers[:2] != ["ok", "iter 1"] or "end" not in answers:
         raise Wrong(f"a walk answers {answers[-3:]}, status {status}")
     return answers[2 : answers.index("end")]
+
+
+def pairs_of(dump):
+    """Returns the pairs that the newest entries of a dump make."""
+    newest = {}
+    for line in dump.splitlines():
+        words = line.split()
+        at = 3 if words[0] == "table" else 2
+        key, sequence = words[at], int(words[at + 1])
+        if sequence > newest.get(key, (-1,))[0]:
+            newest[key] = (sequence, words[at + 3] if words[at + 2] == "put" else None)
+    return {key: value for key, (_, value) in newest.items() if value is not None}
 
 
 def want_held(folder, states):

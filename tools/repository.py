@@ -1,4 +1,4 @@
-"""What the tools of this folder share: the crates, their edits, and copies of the repository."""
+"""What the tools share: the crates, their edits, and copies of the repository."""
 import contextlib
 import functools
 import os
@@ -55,8 +55,8 @@ def edits(folder, root=ROOT):
 
 
 def edits_of(crate, root=ROOT):
-    """Returns all edits of a crate: those that the gate may try, and those that only tools/bugs
-    tries."""
+    """Returns all edits of a crate: those that the gate may try, and those that only
+    tools/proofs/bugs tries."""
     return [*edits(f"crates/{crate}/must-fail", root), *edits(f"bugs/{crate}", root)]
 
 

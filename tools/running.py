@@ -1,4 +1,4 @@
-"""Runs ldbtool for tools/program, and compares what it prints."""
+"""Runs ldbtool for tools/checks/program, and compares what it prints."""
 import os
 import re
 import subprocess
@@ -51,7 +51,8 @@ def lines(*texts):
 # why there was a refusal: of a script's line, of a folder, of a file in it; and its source
 REASON = re.compile(
     rb"ldbtool: (line \d+: |.*: (refused \d|(table|log) \d|each file is sound|`ldbtool check --keep-going|can't be listed|a name in it"
-    rb"|the newest MANIFEST here|the MANIFEST is damaged|in a copy of the folder|no MANIFEST is here|the MANIFEST says|\d+ of \d+ tables have|have the program that wrote it)"
+    rb"|the newest MANIFEST here|the MANIFEST is damaged|in a copy of the folder|no MANIFEST is here|the MANIFEST says|\d+ of \d+ tables have|have the program that wrote it"
+    rb"|(MANIFEST-\d+|\d+\.log) (ends in|has zeros|was cut)|whole records of|`ldbtool mend )"
     rb"|.*/(CURRENT|LOCK|MANIFEST-\d+|\d+\.(log|ldb|sst|dbtmp)): )"
 )
 

@@ -1,5 +1,5 @@
 """Scripts and command lines for ldbtool with the answers that they must get, written down by hand,
-for the checks of tools/program."""
+for the checks of tools/checks/program."""
 
 # each begins in an empty folder
 SCRIPTS = [
@@ -70,7 +70,7 @@ WORKED = [
      "ok; ok; worked; worked; ok; worked; worked; value 31; value 32; value 31", ["table 0 4 61 1 put 31", "table 0 6 62 2 put 32"]),
 ]  # fmt: skip
 
-VERBS = ("get", "scan", "export", "stats", "check", "dump", "run", "import", "compact", "put", "del")
+VERBS = ("get", "scan", "export", "stats", "check", "dump", "run", "import", "compact", "put", "del", "mend")
 
 # command lines that are wrong
 MISUSES = [
@@ -87,6 +87,7 @@ MISUSES = [
     ["import", "--batch", "0", "DIR"], ["import", "--batch", "65537", "DIR"], ["import", "--batch", "x", "DIR"], ["import", "--strict", "DIR"], ["import", "--level", "1", "DIR"],
     ["import", "--sync", "--sync", "DIR"], ["compact", "--level", "6", "DIR"], ["compact", "--level", "-1", "DIR"], ["compact", "--level", "all", "DIR"], ["compact", "--level", "DIR"],
     ["compact", "--batch", "1", "DIR"], ["compact", "--work", "auto", "DIR"],
+    ["mend", "--dry-run=1", "DIR"], ["mend", "--holes", "--holes", "DIR"], ["mend", "--mend", "DIR"], ["run", "--holes", "DIR"], ["check", "--mend", "DIR"], ["put", "--mend", "DIR", "61", "31"],
     *[[it, "--order", "DIR"] for it in VERBS], ["run", "--order", "backwards", "DIR"], ["check", "--order", "Bytes", "DIR"], ["dump", "--order", "", "DIR"],
     ["get", "--order", "bytes ", "DIR", "61"], ["scan", "--order", "REVERSE", "DIR"], ["import", "--order", "none", "DIR"], ["compact", "--order", "byte", "DIR"],
     ["dump", "--order", "bytes", "--order", "reverse", "DIR"], ["--order", "bytes", "check", "DIR"],
@@ -122,7 +123,7 @@ OTHER_OPTIONS = [("import", "batch", 1_000, 65_536)]
 
 # words that ask for help, and what it has
 TOLD = [
-    ("help get", "76616c7565"), ("help put", "--text"), ("del --help", "Deletes one key"), ("get -h", "Usage"), ("scan --help", "--prefix <K>"), ("export --help", "put 6b6579 76616c7565"), ("import --help", "taken N"), ("compact --help", "--level <L>"),
+    ("help get", "76616c7565"), ("help put", "--text"), ("del --help", "Deletes one key"), ("get -h", "Usage"), ("scan --help", "--prefix <K>"), ("export --help", "put 6b6579 76616c7565"), ("import --help", "taken N"), ("compact --help", "--level <L>"), ("help mend", "nothing to mend"), ("help run", "--mend"),
     ("--help", "Exit status"), ("help run", "refused 20 BadLine"), ("run --help", "value 76616c7565"), ("check -h", "Usage"),
     ("dump --help", "table LEVEL NUMBER KEY SEQUENCE put VALUE"), ("dump --help", '"kind":"delete"}'), ("--version", "ldbtool 0.1.0"),
 ]  # fmt: skip

@@ -15,6 +15,8 @@ mod logs;
 #[cfg(test)]
 mod made_tables;
 #[cfg(test)]
+mod mended;
+#[cfg(test)]
 mod numbers;
 #[cfg(test)]
 mod own_orders;

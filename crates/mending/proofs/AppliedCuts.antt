@@ -53,7 +53,7 @@ apart_from file other h k e = not_temporary file (number_of other) h (one_file f
 
 -- ---- one more
 
-item_at : (cuts : List Cut) (P : Cut → Type 0) (i : ℕ) (cut : Cut) → i < length cuts → cut ≡ get_or cuts i cut → AllByRecursion P cuts → P cut
+pub item_at : (cuts : List Cut) (P : Cut → Type 0) (i : ℕ) (cut : Cut) → i < length cuts → cut ≡ get_or cuts i cut → AllByRecursion P cuts → P cut
 item_at [] P i cut lt is all = absurd (omega (arith, lt))
 item_at (c ∷ cuts) P zero cut lt is all = subst P (sym is) all.0
 item_at (c ∷ cuts) P (suc i) cut lt is all = item_at cuts P i cut (omega (arith, lt)) is all.1
@@ -61,7 +61,7 @@ item_at (c ∷ cuts) P (suc i) cut lt is all = item_at cuts P i cut (omega (arit
 pub logged_at : (cuts : List Cut) (i : ℕ) (cut : Cut) → i < length cuts → cut ≡ get_or cuts i cut → AreLogged cuts → IsLogged cut.file
 logged_at cuts i cut lt is all = item_at cuts (λ (c : Cut). IsLogged c.file) i cut lt is all
 
-has_front : (cuts : List Cut) (i : ℕ) (cut : Cut) (content : Option (List ℕ)) → i < length cuts → cut ≡ get_or cuts i cut → content ≡ Some cut.front.items → HasFront cuts (name_of cut.file) content
+pub has_front : (cuts : List Cut) (i : ℕ) (cut : Cut) (content : Option (List ℕ)) → i < length cuts → cut ≡ get_or cuts i cut → content ≡ Some cut.front.items → HasFront cuts (name_of cut.file) content
 has_front [] i cut content lt is e = absurd (omega (arith, lt))
 has_front (c ∷ cuts) zero cut content lt is e = inl (ap (λ (x : Cut). name_of x.file) is, e ∙ ap (λ (x : Cut). Some x.front.items) is)
 has_front (c ∷ cuts) (suc i) cut content lt is e = inr (has_front cuts i cut content (omega (arith, lt)) is e)

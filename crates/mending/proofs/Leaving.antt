@@ -16,7 +16,7 @@ use Rattle.edits.specs.declared.names.FileName.TheVariants.{Current, Lock, Log, 
 use Rattle.edits.proofs.FileNames.{one_file}
 use Rattle.mending.specs.Cutting.{IsReadable}
 use Rattle.mending.specs.Plans.{IsPlain, IsSound, IsMine, HasCutOf, ArePlanned, HasLayout, IsPlan}
-use Rattle.mending.specs.Mending.{temporary_of, IsLogged, HasFront, AreBetween, AreDone, IsCutThere, MendsOnly, KeepsAll, MayMend, AreMended}
+use Rattle.mending.specs.Mending.{temporary_of, IsLogged, HasFront, AreBetween, AreBetweenLost, AreDone, IsCutThere, MendsOnly, KeepsAll, MayMend, MayMendLost, AreMended}
 use Rattle.mending.specs.declared.ends.Ends.{Ends}
 use Rattle.mending.specs.declared.finding.Cut.{Cut}
 use Rattle.mending.proofs.AppliedCuts.{apart_from}
@@ -49,12 +49,12 @@ apart_all : (ends : Ends) (old : Files) (number : ℕ) (layout : Layout) (cuts :
 apart_all ends old number layout [] q all apart = tt
 apart_all ends old number layout (c ∷ cuts) q all apart = (apart c.file all.0.0, apart_all ends old number layout cuts q all.1 apart)
 
-pub mended_only : (name : List ℕ) (ends : Ends) (old files : Files) (number : ℕ) (layout : Layout) (cuts : List Cut) → IsNumbered number → HasLayout name ends old number layout → ArePlanned ends old number layout cuts
-    → AreBetween cuts old files → MendsOnly name ends old files number layout
-mended_only name ends old files number layout cuts numbered has planned between = record {
+pub mended_only : (name : List ℕ) (ends : Ends) (old before files : Files) (number : ℕ) (layout : Layout) (cuts : List Cut) → IsNumbered number → HasLayout name ends old number layout → ArePlanned ends old number layout cuts
+    → AreBetweenLost cuts before files → MendsOnly name ends old before files number layout
+mended_only name ends old before files number layout cuts numbered has planned between = record {
   numbered = numbered;
   has = has;
-  each = λ q locked apart. elim (between q (apart_all ends old number layout cuts q planned.sound apart)) [
+  each = λ q locked apart. elim (between q locked (apart_all ends old number layout cuts q planned.sound apart)) [
     | inl same ↦ inl same
     | inr front ↦ inr (cut_there ends old files number layout cuts q planned.sound front)
   ];
@@ -75,7 +75,7 @@ done_of cuts [] files file h k = absurd k
 done_of cuts (c ∷ done) files file h (inl e) = subst (λ (f : FileName). HasFront cuts (name_of f) (get files (name_of f))) e h.0
 done_of cuts (c ∷ done) files file h (inr k) = done_of cuts done files file h.1 k
 
-mine_logged : (number : ℕ) (layout : Layout) (file : FileName) → IsNumbered number → IsMine number layout file → IsLogged file
+pub mine_logged : (number : ℕ) (layout : Layout) (file : FileName) → IsNumbered number → IsMine number layout file → IsLogged file
 mine_logged number layout (Manifest n) numbered mine = subst IsNumbered (sym mine) numbered
 mine_logged number layout (Log n) numbered mine = mine.0
 mine_logged number layout Current numbered mine = absurd mine
@@ -99,17 +99,25 @@ plain_now ends old files number layout cuts numbered planned between done file m
 
 -- ---- by the plan
 
-kept_all : (old files : Files) (cuts : List Cut) → cuts ≡ [] → AreBetween cuts old files → KeepsAll old files
-kept_all old files cuts none between q locked = elim (subst (λ (cs : List Cut). AreBetween cs old files) none between q tt) [ inl same ↦ same | inr front ↦ absurd front ]
+kept_all : (old files : Files) (cuts : List Cut) → cuts ≡ [] → AreBetweenLost cuts old files → KeepsAll old files
+kept_all old files cuts none between q locked = elim (subst (λ (cs : List Cut). AreBetweenLost cs old files) none between q locked tt) [ inl same ↦ same | inr front ↦ absurd front ]
+
+but_lock : (cuts : List Cut) (old files : Files) → AreBetween cuts old files → AreBetweenLost cuts old files
+but_lock cuts old files between q locked apart = between q apart
+
+-- what a power loss leaves
+pub plan_lost : (name : List ℕ) (ends : Ends) (old before lost : Files) (manifest : Option ℕ) (cuts : List Cut) → IsPlan name ends old manifest cuts → AreBetweenLost cuts before lost → MayMendLost name ends old before lost
+plan_lost name ends old before lost None cuts plan between = inl (kept_all before lost cuts plan.1 between)
+plan_lost name ends old before lost (Some number) cuts plan between = inr (number, plan.1, mended_only name ends old before lost number plan.1 cuts plan.0.2.0 plan.2 plan.3 between)
 
 pub plan_may : (name : List ℕ) (ends : Ends) (old files : Files) (manifest : Option ℕ) (cuts : List Cut) → IsPlan name ends old manifest cuts → AreBetween cuts old files → MayMend name ends old files
-plan_may name ends old files None cuts plan between = inl (kept_all old files cuts plan.1 between)
-plan_may name ends old files (Some number) cuts plan between = inr (number, plan.1, mended_only name ends old files number plan.1 cuts plan.0.2.0 plan.2 plan.3 between)
+plan_may name ends old files None cuts plan between = inl (kept_all old files cuts plan.1 (but_lock cuts old files between))
+plan_may name ends old files (Some number) cuts plan between = inr (number, plan.1, mended_only name ends old old files number plan.1 cuts plan.0.2.0 plan.2 plan.3 (but_lock cuts old files between))
 
 pub plan_mends : (name : List ℕ) (ends : Ends) (old files : Files) (manifest : Option ℕ) (cuts : List Cut) → IsPlan name ends old manifest cuts → AreBetween cuts old files → AreDone cuts cuts files → AreMended name ends old files manifest
-plan_mends name ends old files None cuts plan between done = kept_all old files cuts plan.1 between
+plan_mends name ends old files None cuts plan between done = kept_all old files cuts plan.1 (but_lock cuts old files between)
 plan_mends name ends old files (Some number) cuts plan between done =
-    (plan.0, plan.1, mended_only name ends old files number plan.1 cuts plan.0.2.0 plan.2 plan.3 between, plain_now ends old files number plan.1 cuts plan.0.2.0 plan.3 between done)
+    (plan.0, plan.1, mended_only name ends old old files number plan.1 cuts plan.0.2.0 plan.2 plan.3 (but_lock cuts old files between), plain_now ends old files number plan.1 cuts plan.0.2.0 plan.3 between done)
 
 -- ---- behind the lock
 
@@ -121,7 +129,7 @@ locked_keeps old mid (inr made) q locked = ap (λ (f : Files). get f q) made ∙
     made_other true = refl
     made_other false = get_other old lock_name [] q locked
 
-lock_apart : (file : FileName) → IsLogged file → name_of file ≢ lock_name
+pub lock_apart : (file : FileName) → IsLogged file → name_of file ≢ lock_name
 lock_apart (Log n) h e = let both : Log n ≡ Lock = one_file (Log n) Lock h tt e in cc
 lock_apart (Manifest n) h e = let both : Manifest n ≡ Lock = one_file (Manifest n) Lock h tt e in cc
 lock_apart Current h e = absurd h
@@ -155,24 +163,27 @@ cut_behind ends old mid files number layout q locked kept h = record {
   readable = h.readable;
 }
 
-only_behind : (name : List ℕ) (ends : Ends) (old mid files : Files) (number : ℕ) (layout : Layout) → KeepsAll old mid → MendsOnly name ends mid files number layout → MendsOnly name ends old files number layout
-only_behind name ends old mid files number layout kept h = record {
+only_behind : (name : List ℕ) (ends : Ends) (old mid before after files : Files) (number : ℕ) (layout : Layout) → KeepsAll old mid → KeepsAll before after → MendsOnly name ends mid after files number layout → MendsOnly name ends old before files number layout
+only_behind name ends old mid before after files number layout kept same h = record {
   numbered = h.numbered;
   has = layout_behind name ends old mid number layout h.numbered kept h.has;
   each = λ q locked apart. elim (h.each q locked apart) [
-    | inl same ↦ inl (same ∙ kept q locked)
+    | inl there ↦ inl (there ∙ same q locked)
     | inr cut ↦ inr (cut_behind ends old mid files number layout q locked kept cut)
   ];
 }
 
+pub lost_behind : (name : List ℕ) (ends : Ends) (old mid before after files : Files) → KeepsAll old mid → KeepsAll before after → MayMendLost name ends mid after files → MayMendLost name ends old before files
+lost_behind name ends old mid before after files kept same (inl all) = inl (λ q locked. all q locked ∙ same q locked)
+lost_behind name ends old mid before after files kept same (inr some) = inr (some.0, some.1, only_behind name ends old mid before after files some.0 some.1 kept same some.2)
+
 pub may_behind : (name : List ℕ) (ends : Ends) (old mid files : Files) → KeepsAll old mid → MayMend name ends mid files → MayMend name ends old files
-may_behind name ends old mid files kept (inl all) = inl (λ q locked. all q locked ∙ kept q locked)
-may_behind name ends old mid files kept (inr some) = inr (some.0, some.1, only_behind name ends old mid files some.0 some.1 kept some.2)
+may_behind name ends old mid files kept h = lost_behind name ends old mid old mid files kept kept h
 
 pub mended_behind : (name : List ℕ) (ends : Ends) (old mid files : Files) (manifest : Option ℕ) → KeepsAll old mid → AreMended name ends mid files manifest → AreMended name ends old files manifest
 mended_behind name ends old mid files None kept h = λ q locked. h q locked ∙ kept q locked
 mended_behind name ends old mid files (Some number) kept h =
-    ((h.0.0, sym (kept (name_of Current) current_apart) ∙ h.0.1, h.0.2), h.1, only_behind name ends old mid files number h.1 kept h.2, h.3)
+    ((h.0.0, sym (kept (name_of Current) current_apart) ∙ h.0.1, h.0.2), h.1, only_behind name ends old mid old mid files number h.1 kept kept h.2, h.3)
 
 -- ---- the whole
 
@@ -197,7 +208,7 @@ locked_mends name ends old mid new manifest cuts r f plan h done =
 pub lock_stops : (name : List ℕ) (ends : Ends) (old mid : Facts) → LeavesOnly old mid (MayLock old.files) → LeavesOnly old mid (MayMend name ends old.files)
 lock_stops name ends old mid h = leaves_so old mid (MayLock old.files) (MayMend name ends old.files) (λ files may. inl (locked_keeps old.files files may)) h
 
-pub mend_stops : (name : List ℕ) (ends : Ends) (old a b new : Facts) → MayLock old.files a.files → LeavesOnly old a (MayLock old.files) → LeavesOnly a b (MayMend name ends a.files) → (new.files ≡ b.files) × (new.calls ≡ b.calls)
+pub mend_stops : (name : List ℕ) (ends : Ends) (old a b new : Facts) → MayLock old.files a.files → LeavesOnly old a (MayLock old.files) → LeavesOnly a b (MayMend name ends a.files) → (new.files ≡ b.files) × (new.calls ≡ b.calls) × (new.synced ≡ b.synced)
     → LeavesOnly old new (MayMend name ends old.files)
 mend_stops name ends old a b new may lock h same =
     let P = MayMend name ends old.files in
@@ -205,7 +216,7 @@ mend_stops name ends old a b new may lock h same =
     let both = leaves_both old a b P (lock_stops name ends old a lock) second in
     leaves_both old b new P both (leaves_same b new P same.1 same.0 both.now)
 
-pub mend_mends : (name : List ℕ) (ends : Ends) (old a b new : Facts) (manifest : Option ℕ) → MayLock old.files a.files → AreMended name ends a.files b.files manifest → (new.files ≡ b.files) × (new.calls ≡ b.calls) → AreMended name ends old.files new.files manifest
+pub mend_mends : (name : List ℕ) (ends : Ends) (old a b new : Facts) (manifest : Option ℕ) → MayLock old.files a.files → AreMended name ends a.files b.files manifest → (new.files ≡ b.files) × (new.calls ≡ b.calls) × (new.synced ≡ b.synced) → AreMended name ends old.files new.files manifest
 mend_mends name ends old a b new manifest may h same =
     subst (λ (fs : Files). AreMended name ends old.files fs manifest) (sym same.0) (mended_behind name ends old.files a.files b.files manifest (locked_keeps old.files a.files may) h)
 

@@ -1,7 +1,10 @@
 pub mod Fronts
 pub mod Saying
 pub mod Writing
+pub mod Lost
+pub mod LosingFiles
 pub mod PlannedCuts
 pub mod AppliedCuts
 pub mod Leaving
+pub mod LosingCuts
 pub mod PlanSteps

@@ -1,13 +1,13 @@
 -- The steps of planning.
-use Rattle.std.proofs.lemmas.List.{append-nil}
-use Rattle.std.proofs.Common.{◌≡◌, ℕ, List, [], ◌∷◌, ◌++◌, Some, None, IsTrue, inl, inr, refl, sym, subst, ◌∙◌}
+use Rattle.std.proofs.lemmas.List.{append-nil, length-take}
+use Rattle.std.proofs.Common.{◌≡◌, ◌≤◌, ℕ, List, [], ◌∷◌, ◌++◌, Some, None, IsTrue, inl, inr, refl, sym, ap, subst, ◌∙◌, length, take, drop, arith}
 use Rattle.std.specs.FinMap.{get}
 use Rattle.store.specs.Files.{Files, Facts}
 use Rattle.edits.specs.Names.{name_of}
 use Rattle.edits.specs.declared.layout.Layout.{Layout}
 use Rattle.edits.specs.declared.names.FileName.{FileName}
 use Rattle.edits.specs.declared.names.FileName.TheVariants.{Manifest}
-use Rattle.mending.specs.Cutting.{Becomes, IsReadable}
+use Rattle.mending.specs.Cutting.{Becomes, EndsIn, IsReadable}
 use Rattle.coding.specs.Errors.{RefusesOnly}
 use Rattle.coding.specs.declared.error.DbError.{DbError}
 use Rattle.coding.specs.declared.error.FileKind.{FileKind}
@@ -54,6 +54,12 @@ layout_cut name ends files number layout cut sound says =
     record { bytes = sound.1; front = cut.front.items; held = sound.2; becomes = record { how = inr sound.3; readable = sound.4 }; says = says }
 
 -- ---- what was found
+
+-- what is behind the front ends in so many zeros
+pub zeros_behind : (n zeros : ℕ) (bytes front : List ℕ) → n ≤ length bytes → front ≡ take n bytes → EndsIn zeros (drop n bytes) → EndsIn zeros (drop (length front) bytes)
+zeros_behind n zeros bytes front le is h =
+    let same : n ≡ length front = omega (arith, ap (λ (b : List ℕ). length b) is, length-take n bytes, le) in
+    subst (λ (k : ℕ). EndsIn zeros (drop k bytes)) same h
 
 pub front_refused : (old new : Facts) (ends : Ends) (file : FileName) (kind : FileKind) (e : ReadError) (result : DbError) (bytes : List ℕ) → result ≡ in_file kind e → (IsTrue new.faithful → get old.files (name_of file) ≡ Some bytes)
     → RefusesOnly e ((front : List ℕ) → Becomes ends bytes front → ⊥) → RefusesMend result old new (HasNoFront ends old.files file) ⊥

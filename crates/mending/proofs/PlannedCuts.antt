@@ -84,7 +84,7 @@ has_last (c ∷ cuts) cut file e = inr (has_last cuts cut file e)
 
 sound_file : (ends : Ends) (files : Files) (number : ℕ) (layout : Layout) (file : FileName) (cut : Cut) → IsMine number layout file → IsSound ends files file cut → IsGood ends files number layout cut
 sound_file ends files number layout file cut mine sound =
-    (subst (λ (f : FileName). IsMine number layout f) (sym sound.0) mine, (refl, sound.1, ap (λ (f : FileName). get files (name_of f)) sound.0 ∙ sound.2, sound.3, sound.4))
+    (subst (λ (f : FileName). IsMine number layout f) (sym sound.0) mine, (refl, sound.1, ap (λ (f : FileName). get files (name_of f)) sound.0 ∙ sound.2, sound.3, sound.4, sound.5))
 
 -- what is so of the cuts so far stays, and this file is planned
 file_all : (ends : Ends) (files : Files) (number : ℕ) (layout : Layout) (file : FileName) (old new : List Cut) → IsMine number layout file → PlansFile ends files file old new

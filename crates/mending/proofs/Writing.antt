@@ -37,7 +37,7 @@ pub get_same : (files : Files) (name file : List ℕ) → get (insert files name
 get_same files name file =
     get-insert nat_list_cmp_total files name file name ∙ ap (λ (b : Bool). cond b (Some file) (get files name)) (ap is_eq (tied_itself nat_list_cmp_total name))
 
-get_removed : (files : Files) (name q : List ℕ) → q ≢ name → get (remove files name) q ≡ get files q
+pub get_removed : (files : Files) (name q : List ℕ) → q ≢ name → get (remove files name) q ≡ get files q
 get_removed files name q apart =
     get-remove nat_list_cmp_total files name q ∙ other_at (eq_by_cmp (slice_cmp nat_cmp) q name) None (get files q) (λ is. apart (same_name q name is))
 
@@ -70,11 +70,11 @@ writes_by a b r c denials locked = record { faithful = c.faithful; failures = c.
 pub others_both : (a b c : Files) (name : List ℕ) → KeepsOthers a b name → KeepsOthers b c name → KeepsOthers a c name
 others_both a b c name h k q apart = k q apart ∙ h q apart
 
-created_others : (old new : Files) (name : List ℕ) → MayLeave (Creation name) old new → KeepsOthers old new name
+pub created_others : (old new : Files) (name : List ℕ) → MayLeave (Creation name) old new → KeepsOthers old new name
 created_others old new name (inl same) q apart = ap (λ (f : Files). get f q) same
 created_others old new name (inr done) q apart = ap (λ (f : Files). get f q) done ∙ get_other old name [] q apart
 
-appended_others : (old new : Files) (name bytes : List ℕ) → AppendsBeginning old new name bytes → KeepsOthers old new name
+pub appended_others : (old new : Files) (name bytes : List ℕ) → AppendsBeginning old new name bytes → KeepsOthers old new name
 appended_others old new name bytes (inl same) q apart = ap (λ (f : Files). get f q) same
 appended_others old new name bytes (inr some) q apart = ap (λ (f : Files). get f q) some.1.2 ∙ get_other old name (some.1.0 ++ take some.0 bytes) q apart
 
@@ -125,6 +125,3 @@ moved_stops old mid new temporary name bytes there h noted =
     leaves_both old mid new (λ files. MayReplace old.files files temporary name bytes) (unset_stops old mid temporary name bytes h)
     (leaves_so mid new (MayLeave (Move temporary name) mid.files) (λ files. MayReplace old.files files temporary name bytes)
     (λ files left. moved_may old.files mid.files files temporary name bytes there h.now left) (noted_left mid new (Move temporary name) noted))
-
-pub kept_synced : (old : Synced) (new : Synced) (files most : Files) (name bytes : List ℕ) → new ≡ with_synced old name (get files name) → get files name ≡ Some bytes → new name ≡ Some bytes
-kept_synced old new files most name bytes is there = ap (λ (s : Synced). s name) is ∙ with_same old name (get files name) ∙ there

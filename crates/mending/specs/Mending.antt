@@ -49,6 +49,12 @@ abbrev pub AreBetween : List Cut → Files → Files → Type 0
 AreBetween cuts old files = (q : List ℕ) → AllByRecursion (λ (cut : Cut). q ≢ temporary_of cut.file) cuts
     → (get files q ≡ get old q) ⊎ HasFront cuts q (get files q)
 
+-- So it is after a power loss, but for `LOCK`: whatever was left of them before.
+abbrev pub AreBetweenLost : List Cut → Files → Files → Type 0
+AreBetweenLost cuts before lost = (q : List ℕ) → q ≢ lock_name
+    → AllByRecursion (λ (cut : Cut). q ≢ temporary_of cut.file) cuts
+    → (get lost q ≡ get before q) ⊎ HasFront cuts q (get lost q)
+
 -- Each of the files of these has the front of one of all.
 abbrev pub AreDone : List Cut → List Cut → Files → Type 0
 AreDone cuts done files = AllByRecursion (λ (cut : Cut).
@@ -68,13 +74,14 @@ pub record IsCutThere (ends : Ends) (old files : Files) (number : ℕ) (layout :
   pub cut : IsCut ends bytes front
   pub readable : IsReadable front
 
--- But for `LOCK` and temporary files of its own, each file is as it was, or is the MANIFEST or a
--- live log, and was cut.
-pub record MendsOnly (name : List ℕ) (ends : Ends) (old files : Files) (number : ℕ) (layout : Layout) : Type 0 where
+-- But for `LOCK` and temporary files of its own, each file is as it was before, or is the MANIFEST
+-- or a live log, and was cut. What it is cut of are the old files.
+pub record MendsOnly (name : List ℕ) (ends : Ends) (old before files : Files) (number : ℕ)
+    (layout : Layout) : Type 0 where
   pub numbered : IsNumbered number
   pub has : HasLayout name ends old number layout
   pub each : (q : List ℕ) → q ≢ lock_name → ((file : FileName) → IsMine number layout file → q ≡ temporary_of file → ⊥)
-      → (get files q ≡ get old q) ⊎ IsCutThere ends old files number layout q
+      → (get files q ≡ get before q) ⊎ IsCutThere ends old files number layout q
 
 -- But for `LOCK` each file is as it was.
 abbrev pub KeepsAll : Files → Files → Type 0
@@ -83,11 +90,16 @@ KeepsAll old files = (q : List ℕ) → q ≢ lock_name → get files q ≡ get 
 -- So it is, or some of the files were cut.
 abbrev pub MayMend : List ℕ → Ends → Files → Files → Type 0
 MayMend name ends old files = KeepsAll old files ⊎ ((number : ℕ) × (layout : Layout)
-    × MendsOnly name ends old files number layout)
+    × MendsOnly name ends old old files number layout)
+
+-- After a power loss: so it is of what one may have left before.
+abbrev pub MayMendLost : List ℕ → Ends → Files → Files → Files → Type 0
+MayMendLost name ends old before lost = KeepsAll before lost ⊎ ((number : ℕ) × (layout : Layout)
+    × MendsOnly name ends old before lost number layout)
 
 -- Each of the files that are mended is a log now.
 abbrev pub AreMended : List ℕ → Ends → Files → Files → Option ℕ → Type 0
 AreMended name ends old files None = KeepsAll old files
 AreMended name ends old files (Some number) = HasCurrent old number × (layout : Layout)
-    × MendsOnly name ends old files number layout
+    × MendsOnly name ends old old files number layout
     × ((file : FileName) → IsMine number layout file → IsPlain files file)

@@ -1,5 +1,6 @@
 -- Which files are mended, and what a plan says of them.
-use Rattle.std.specs.Prelude.{◌≡◌, ◌⊎◌, ◌≤◌, ◌<◌, ℕ, List, [], ◌∷◌, ◌++◌, Option, Some, None, Contains, length, take}
+use Rattle.std.specs.Prelude.{◌≡◌, ◌⊎◌, ◌≤◌, ◌<◌, ℕ, List, [], ◌∷◌, ◌++◌, Option, Some, None, Contains}
+use Rattle.std.specs.Prelude.{length, take, drop}
 use Rattle.std.specs.FinMap.{get}
 use Rattle.std.specs.List.{AllByRecursion}
 use Rattle.logfile.specs.Log.{IsLog}
@@ -12,7 +13,7 @@ use Rattle.edits.specs.declared.layout.Layout.{Layout}
 use Rattle.edits.specs.declared.names.FileName.{FileName}
 use Rattle.edits.specs.declared.names.FileName.TheVariants.{Current, Log, Manifest}
 use Rattle.store.specs.Files.{Files}
-use Rattle.mending.specs.Cutting.{Becomes, IsCut, IsReadable}
+use Rattle.mending.specs.Cutting.{Becomes, EndsIn, IsCut, IsReadable}
 use Rattle.mending.specs.declared.ends.Ends.{Ends}
 use Rattle.mending.specs.declared.finding.Cut.{Cut}
 use Rattle.mending.specs.declared.finding.Found.{Found}
@@ -24,11 +25,15 @@ use Rattle.mending.specs.declared.finding.Found.TheVariants as found
 abbrev pub IsPlain : Files → FileName → Type 0
 IsPlain files file = (bytes : List ℕ) → get files (name_of file) ≡ Some bytes → IsReadable bytes
 
+-- The cut says how long the file is, and how many zeros what is cut off ends with.
+abbrev pub SaysSize : List ℕ → Cut → Type 0
+SaysSize bytes cut = (cut.length ≡ length bytes) × EndsIn cut.zeros (drop (length cut.front.items) bytes)
+
 -- The file is there, and is cut behind this front.
 abbrev pub IsSound : Ends → Files → FileName → Cut → Type 0
 IsSound ends files file cut = (cut.file ≡ file)
     × (bytes : List ℕ) × (get files (name_of file) ≡ Some bytes) × IsCut ends bytes cut.front.items
-    × IsReadable cut.front.items
+    × IsReadable cut.front.items × SaysSize bytes cut
 
 -- It is there, and neither it nor what would be left of it is a log.
 abbrev pub HasNoFront : Ends → Files → FileName → Type 0

@@ -4,8 +4,9 @@ ghost use Rattle.std.specs.Prelude.{◌≡◌, ◌≤◌, ◌<◌, ◌⊎◌, tr
 ghost use Rattle.store.specs.Files.{Files, MayLock};
 ghost use Rattle.store.specs.Stops.{LeavesOnly};
 ghost use Rattle.mending.specs.Calls.{RefusesMend};
-ghost use Rattle.mending.specs.Mending.{AreBetween, AreDone, AreLogged, AreMended, IsLogged, MayMend};
-ghost use Rattle.mending.specs.Mending.{number_of as number_in, temporary_of};
+ghost use Rattle.mending.specs.Losing.{HaveNamesStayed, IsDurable, LosesBy, MayReplaceWhole};
+ghost use Rattle.mending.specs.Mending.{AreBetween, AreBetweenLost, AreDone, AreLogged, AreMended, IsLogged};
+ghost use Rattle.mending.specs.Mending.{KeepsAll, MayMend, MayMendLost, number_of as number_in, temporary_of};
 ghost use Rattle.mending.specs.Plans.{IsBeyond, IsPlan, IsUnmendable};
 ghost use Rattle.mending.specs.Replacing.{MayReplace, Replaces, Writes};
 ghost use Rattle.edits.specs.Names.{name_of};
@@ -38,9 +39,16 @@ pub fn mend<K: KeyOrder, S: Store>(
     // A crash at any moment leaves each file as it was or mended.
     ensures stops { IsTrue (S.facts store.new).faithful → LeavesOnly (S.facts store.old) (S.facts store.new)
         (MayMend K.name ends (S.facts store.old).files) }
+    // A power loss leaves each as one left it before, or mended.
+    ensures loses { IsTrue (S.facts store.new).faithful → HaveNamesStayed (S.facts store.old)
+        → LosesBy (S.facts store.old) (S.facts store.new) (MayMendLost K.name ends (S.facts store.old).files) }
     ensures refused { IfErr result (λ error. RefusesMend error (S.facts store.old) (S.facts store.new)
         ((files : Files) × MayLock (S.facts store.old).files files × IsUnmendable K.name ends files)
         ((files : Files) × MayLock (S.facts store.old).files files × IsBeyond K.name ends files)) }
+    // The plan is the one for the files that it found.
+    ensures logged { IfOk result (λ plan. AreLogged plan.cuts.items) }
+    ensures planned { IfOk result (λ plan. IsTrue (S.facts store.new).faithful → (files : Files)
+        × MayLock (S.facts store.old).files files × IsPlan K.name ends files plan.manifest plan.cuts.items) }
     ensures faithful { IsTrue (S.facts store.new).faithful → IsTrue (S.facts store.old).faithful }
     ensures free { OnOk result ((S.facts store.new).locked ≡ false) }
 {
@@ -64,7 +72,8 @@ fn give_back<S: Store>(store: &mut S) -> Result<(), DbError>
     ensures denials { (S.facts store.new).denials ≡ (S.facts store.old).denials }
     ensures free { OnOk result ((S.facts store.new).locked ≡ false) }
     ensures same { IsTrue (S.facts store.new).faithful → ((S.facts store.new).files ≡ (S.facts store.old).files)
-        × ((S.facts store.new).calls ≡ (S.facts store.old).calls) }
+        × ((S.facts store.new).calls ≡ (S.facts store.old).calls)
+        × ((S.facts store.new).synced ≡ (S.facts store.old).synced) }
     ensures refused { IfErr result (λ error. RefusesMend error (S.facts store.old) (S.facts store.new) ⊥ ⊥) }
 {
     match store.unlock() {
@@ -82,8 +91,12 @@ fn take_lock<S: Store>(store: &mut S) -> Result<(), DbError>
     ensures files { IsTrue (S.facts store.new).faithful → MayLock (S.facts store.old).files (S.facts store.new).files }
     ensures stops { IsTrue (S.facts store.new).faithful
         → LeavesOnly (S.facts store.old) (S.facts store.new) (MayLock (S.facts store.old).files) }
+    ensures loses { IsTrue (S.facts store.new).faithful → HaveNamesStayed (S.facts store.old)
+        → LosesBy (S.facts store.old) (S.facts store.new) KeepsAll × HaveNamesStayed (S.facts store.new) }
     ensures refused { IfErr result (λ error. RefusesMend error (S.facts store.old) (S.facts store.new) ⊥ ⊥) }
 {
+    // A law, for the proof alone.
+    store.synced_law();
     match store.lock() {
         Ok(true) => Ok(()),
         Ok(false) => Err(DbError::Locked),
@@ -104,8 +117,13 @@ fn mend_locked<K: KeyOrder, S: Store>(
         → AreMended K.name ends (S.facts store.old).files (S.facts store.new).files plan.manifest) }
     ensures stops { IsTrue (S.facts store.new).faithful → LeavesOnly (S.facts store.old) (S.facts store.new)
         (MayMend K.name ends (S.facts store.old).files) }
+    ensures loses { IsTrue (S.facts store.new).faithful → HaveNamesStayed (S.facts store.old)
+        → LosesBy (S.facts store.old) (S.facts store.new) (MayMendLost K.name ends (S.facts store.old).files) }
     ensures refused { IfErr result (λ error. RefusesMend error (S.facts store.old) (S.facts store.new)
         (IsUnmendable K.name ends (S.facts store.old).files) (IsBeyond K.name ends (S.facts store.old).files)) }
+    ensures logged { IfOk result (λ plan. AreLogged plan.cuts.items) }
+    ensures planned { IfOk result (λ plan. IsTrue (S.facts store.new).faithful
+        → IsPlan K.name ends (S.facts store.old).files plan.manifest plan.cuts.items) }
 {
     let plan = plan_cuts::<K, S>(alloc, store, ends)?;
     apply(alloc, store, &plan.cuts)?;
@@ -120,6 +138,8 @@ fn apply<S: Store>(alloc: Global, store: &mut S, cuts: &[Cut]) -> Result<(), DbE
         → OnOk result (AreDone cuts.now cuts.now (S.facts store.new).files) }
     ensures stops { IsTrue (S.facts store.new).faithful → LeavesOnly (S.facts store.old) (S.facts store.new)
         (AreBetween cuts.now (S.facts store.old).files) }
+    ensures loses { IsTrue (S.facts store.new).faithful → HaveNamesStayed (S.facts store.old)
+        → LosesBy (S.facts store.old) (S.facts store.new) (AreBetweenLost cuts.now) }
     ensures refused { IfErr result (λ error. RefusesMend error (S.facts store.old) (S.facts store.new) ⊥ ⊥) }
 {
     for cut in cuts {
@@ -137,6 +157,11 @@ fn apply_one<S: Store>(alloc: Global, store: &mut S, cut: &Cut) -> Result<(), Db
     ensures stops { IsTrue (S.facts store.new).faithful → LeavesOnly (S.facts store.old) (S.facts store.new)
         (λ files. MayReplace (S.facts store.old).files files (temporary_of cut.now.file)
         (name_of cut.now.file) cut.now.front.items) }
+    ensures loses { IsTrue (S.facts store.new).faithful → HaveNamesStayed (S.facts store.old)
+        → LosesBy (S.facts store.old) (S.facts store.new) (λ before lost. MayReplaceWhole before lost
+        (temporary_of cut.now.file) (name_of cut.now.file) cut.now.front.items) }
+    ensures durable { IsTrue (S.facts store.new).faithful
+        → OnOk result (IsDurable (S.facts store.new) (name_of cut.now.file) cut.now.front.items) }
     ensures refused { IfErr result (λ error. RefusesMend error (S.facts store.old) (S.facts store.new) ⊥ ⊥) }
 {
     let name = print_name(alloc, cut.file)?;

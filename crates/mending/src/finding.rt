@@ -71,7 +71,7 @@ fn cut_file(file: FileName, mut bytes: Vec<u8>, n: usize) -> Cut
     ensures file { result.file ≡ file }
     ensures front { result.front.items ≡ take n bytes.items }
     ensures length { result.length ≡ length bytes.items }
-    ensures zeros { EndsIn result.zeros (drop n bytes.items) }
+    ensures zeros { EndsIn result.zeros (drop (length result.front.items) bytes.items) }
 {
     let length = bytes.len() as u64;
     let (_, rest) = bytes.split_at(n);

@@ -1,10 +1,10 @@
 //! Puts other bytes in the place of a file, by way of a temporary file.
 
-ghost use Rattle.std.specs.Prelude.{◌≡◌, ◌≢◌, ◌⊎◌, ℕ, List, Some, IfErr, IsTrue, OnOk};
-ghost use Rattle.std.specs.FinMap.{get};
-ghost use Rattle.store.specs.Stops.{LeavesOnly};
+ghost use Rattle.std.specs.Prelude.{◌≡◌, ◌⊎◌, ℕ, List, IfErr, IsTrue, OnOk};
+ghost use Rattle.store.specs.Stops.{LeavesOnly, WritesOnly};
 ghost use Rattle.mending.specs.Calls.{RefusesMend};
-ghost use Rattle.mending.specs.Replacing.{KeepsOthers, MayReplace, Replaces, Writes, refusal_for};
+ghost use Rattle.mending.specs.Losing.{HaveNamesStayed, IsDurable, LosesBy, MayReplaceWhole};
+ghost use Rattle.mending.specs.Replacing.{MayReplace, Replaces, Writes, refusal_for};
 
 use coding::DbError;
 use store::{Store, StoreError};
@@ -24,9 +24,16 @@ pub fn replace_file<S: Store>(
         (Replaces (S.facts store.old).files (S.facts store.new).files temporary.now name.now bytes.now) }
     ensures stops { IsTrue (S.facts store.new).faithful → LeavesOnly (S.facts store.old) (S.facts store.new)
         (λ files. MayReplace (S.facts store.old).files files temporary.now name.now bytes.now) }
-    ensures synced { IsTrue (S.facts store.new).faithful
-        → OnOk result ((S.facts store.new).synced name.now ≡ Some bytes.now) }
+    // A power loss at any moment leaves the old bytes, or as much of them as one left before; or
+    // the new ones, all of them. After an Ok it leaves the new ones.
+    ensures loses { IsTrue (S.facts store.new).faithful → HaveNamesStayed (S.facts store.old)
+        → LosesBy (S.facts store.old) (S.facts store.new)
+        (λ before lost. MayReplaceWhole before lost temporary.now name.now bytes.now) }
+    ensures durable { IsTrue (S.facts store.new).faithful
+        → OnOk result (IsDurable (S.facts store.new) name.now bytes.now) }
 {
+    // A law, for the proof alone.
+    store.synced_law();
     write_file(store, temporary, bytes)?;
     if let Err(error) = store.rename(temporary, name) {
         return Err(refusal_of(error));
@@ -37,22 +44,22 @@ pub fn replace_file<S: Store>(
     Ok(())
 }
 
-// Writes a file anew, and syncs it.
-fn write_file<S: Store>(store: &mut S, name: &str, bytes: &[u8]) -> Result<(), DbError>
+// Writes the temporary file anew, and syncs it.
+fn write_file<S: Store>(store: &mut S, temporary: &str, bytes: &[u8]) -> Result<(), DbError>
     ensures writes { Writes (S.facts store.old) (S.facts store.new) }
     ensures refused { IfErr result (λ error. RefusesMend error (S.facts store.old) (S.facts store.new) ⊥ ⊥) }
     ensures written { IsTrue (S.facts store.new).faithful
-        → OnOk result (get (S.facts store.new).files name.now ≡ Some bytes.now) }
-    ensures stops { IsTrue (S.facts store.new).faithful → LeavesOnly (S.facts store.old) (S.facts store.new)
-        (λ files. KeepsOthers (S.facts store.old).files files name.now) }
+        → OnOk result (IsDurable (S.facts store.new) temporary.now bytes.now) }
+    ensures only { IsTrue (S.facts store.new).faithful
+        → WritesOnly (S.facts store.old) (S.facts store.new) (λ (q : List ℕ). q ≡ temporary.now) }
 {
-    if let Err(error) = store.create(name) {
+    if let Err(error) = store.create(temporary) {
         return Err(refusal_of(error));
     }
-    if let Err(error) = store.append(name, bytes) {
+    if let Err(error) = store.append(temporary, bytes) {
         return Err(refusal_of(error));
     }
-    if let Err(error) = store.sync(name) {
+    if let Err(error) = store.sync(temporary) {
         return Err(refusal_of(error));
     }
     Ok(())

@@ -116,18 +116,26 @@ check_app = with_place (with_keep_going (new_app (codes "check")))
 abbrev pub dump_app : App
 dump_app = with_place (with_keep_going (with_notation (new_app (codes "dump"))))
 
+-- that may mend the directory first
+abbrev pub with_mend : App → App
+with_mend app = with_rule app (flag_rule (codes "mend"))
+
 abbrev pub run_app : App
-run_app = with_place (with_options (with_rule (with_rule (new_app (codes "run")) (word_rule (codes "work"))) (flag_rule (codes "strict"))))
+run_app =
+    with_place (with_options (with_mend (with_rule (with_rule (new_app (codes "run"))
+    (word_rule (codes "work")))
+    (flag_rule (codes "strict")))))
 
 abbrev pub import_app : App
 import_app =
-    with_place (with_options (with_rule (with_rule (with_rule (new_app (codes "import"))
+    with_place (with_options (with_mend (with_rule (with_rule (with_rule (new_app (codes "import"))
     (number_rule (codes "batch") (codes "1000") 65536))
     (flag_rule (codes "sync")))
-    (flag_rule (codes "create"))))
+    (flag_rule (codes "create")))))
 
 abbrev pub compact_app : App
-compact_app = with_place (with_options (with_rule (new_app (codes "compact")) (optional_rule (codes "level") 0 5)))
+compact_app =
+    with_place (with_options (with_mend (with_rule (new_app (codes "compact")) (optional_rule (codes "level") 0 5))))
 
 abbrev pub put_app : App
 put_app =
@@ -136,6 +144,10 @@ put_app =
 
 abbrev pub del_app : App
 del_app = with_rule (with_place (with_text (new_app (codes "del")))) (given_rule (codes "KEY"))
+
+abbrev pub mend_app : App
+mend_app =
+    with_place (with_rule (with_rule (new_app (codes "mend")) (flag_rule (codes "dry-run"))) (flag_rule (codes "holes")))
 
 -- the command itself, which has a version and takes a subcommand
 abbrev pub bare_app : App
@@ -158,12 +170,13 @@ with_readers app =
 -- those that write
 abbrev pub with_writers : App → App
 with_writers app =
-    with_subcommand (with_subcommand (with_subcommand (with_subcommand (with_subcommand app
+    with_subcommand (with_subcommand (with_subcommand (with_subcommand (with_subcommand (with_subcommand app
     run_app.top)
     import_app.top)
     compact_app.top)
     put_app.top)
-    del_app.top
+    del_app.top)
+    mend_app.top
 
 abbrev pub the_app : App
 the_app = with_writers (with_readers bare_app)

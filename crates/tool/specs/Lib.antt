@@ -6,3 +6,4 @@ pub mod Inspecting
 pub mod Statistics
 pub mod EachFile
 pub mod OneWrite
+pub mod Mends

@@ -14,6 +14,7 @@ use Rattle.texts.specs.Texts.{IsText}
 use Rattle.tool.specs.CommandLine.{the_app}
 use Rattle.tool.specs.declared.task.Bounds.{Bounds}
 use Rattle.tool.specs.declared.task.Lookup.{Lookup}
+use Rattle.tool.specs.declared.task.Mending.{Mending}
 use Rattle.tool.specs.declared.task.Named.{Named}
 use Rattle.tool.specs.declared.task.Notation.{Notation}
 use Rattle.tool.specs.declared.task.Notation.TheVariants.{Words, Json}
@@ -26,7 +27,7 @@ use Rattle.tool.specs.declared.task.Pieces.{Pieces}
 use Rattle.tool.specs.declared.task.Search.{Search}
 use Rattle.tool.specs.declared.task.Task.{Task}
 use Rattle.tool.specs.declared.task.Task.TheVariants.{Get, Scan, Export, Check, Stats, Dump, Run, Import, Compact}
-use Rattle.tool.specs.declared.task.Task.TheVariants.{Put, Del}
+use Rattle.tool.specs.declared.task.Task.TheVariants.{Put, Del, Mend}
 use Rattle.tool.specs.declared.task.Turns.{Turns}
 
 -- ---- an option
@@ -176,11 +177,17 @@ work_word false = None
 pub record AreTurns (rows : List Row) (turns : Turns) : Type 0 where
   pub works : first_of (codes "work") rows ≡ work_word turns.works
   pub strict : IsFlag (codes "strict") rows turns.strict
+  pub mends : IsFlag (codes "mend") rows turns.mends
 
 pub record ArePieces (rows : List Row) (pieces : Pieces) : Type 0 where
   pub batch : IsNumberOf (codes "batch") rows pieces.batch
   pub sync : IsFlag (codes "sync") rows pieces.sync
   pub create : IsFlag (codes "create") rows pieces.create
+  pub mends : IsFlag (codes "mend") rows pieces.mends
+
+pub record IsMending (rows : List Row) (mending : Mending) : Type 0 where
+  pub dry_run : IsFlag (codes "dry-run") rows mending.dry_run
+  pub holes : IsFlag (codes "holes") rows mending.holes
 
 -- ---- tasks
 
@@ -195,8 +202,11 @@ AsksFor (Some name) (Some rows) (Stats place json) = (name ≡ codes "stats") ×
 AsksFor (Some name) (Some rows) (Dump place notation on) = (name ≡ codes "dump") × IsPlace rows place × IsNotation rows notation × IsFlag (codes "keep-going") rows on
 AsksFor (Some name) (Some rows) (Run place numbers turns) = (name ≡ codes "run") × IsPlace rows place × HaveNumbers rows numbers × AreTurns rows turns
 AsksFor (Some name) (Some rows) (Import place numbers pieces) = (name ≡ codes "import") × IsPlace rows place × HaveNumbers rows numbers × ArePieces rows pieces
-AsksFor (Some name) (Some rows) (Compact place numbers level) =
+AsksFor (Some name) (Some rows) (Compact place numbers level mends) =
     (name ≡ codes "compact") × IsPlace rows place × HaveNumbers rows numbers × IsOptional (codes "level") rows level
+    × IsFlag (codes "mend") rows mends
+AsksFor (Some name) (Some rows) (Mend place mending) =
+    (name ≡ codes "mend") × IsPlace rows place × IsMending rows mending
 AsksFor (Some name) (Some rows) (Put place pair) = (name ≡ codes "put") × IsPlace rows place × IsPair rows pair
 AsksFor (Some name) (Some rows) (Del place named) = (name ≡ codes "del") × IsPlace rows place × IsNamed rows named
 AsksFor _ _ task = ⊥

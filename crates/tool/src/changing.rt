@@ -5,6 +5,7 @@ ghost use Rattle.tool.specs.OneWrite.{del_script_of, put_script_of};
 
 use crate::finding::key_of;
 use crate::looking::open;
+use crate::mend::mend_first;
 use crate::progress::{Meter, Target, Watched};
 use crate::saying::{no_folder_made, status_of, stop};
 use crate::status::{DONE, FAILED, MISUSED, STRICT};
@@ -36,7 +37,7 @@ pub fn run<K: KeyOrder, R: Read + Drop, W: Write, F: Write>(
         folder,
         watched: false,
     };
-    let mut session = match begin::<K, F>(rt, unwatched, numbers, faults) {
+    let mut session = match begin::<K, F>(rt, unwatched, numbers, turns.mends, faults) {
         Ok(session) => session,
         Err(status) => return status,
     };
@@ -72,7 +73,7 @@ pub fn import<K: KeyOrder, R: Read + Drop, W: Write, F: Write>(
             return status;
         }
     }
-    let mut session = match begin::<K, F>(rt, target, numbers, faults) {
+    let mut session = match begin::<K, F>(rt, target, numbers, pieces.mends, faults) {
         Ok(session) => session,
         Err(status) => return status,
     };
@@ -88,13 +89,14 @@ pub fn compact<K: KeyOrder, W: Write, F: Write>(
     target: Target<'_>,
     numbers: Numbers,
     level: Option<u64>,
+    mends: bool,
     writer: &mut W,
     faults: &mut F,
 ) -> u8 {
     let Ok(level) = small_level(level) else {
         return MISUSED;
     };
-    let mut session = match begin::<K, F>(rt, target, numbers, faults) {
+    let mut session = match begin::<K, F>(rt, target, numbers, mends, faults) {
         Ok(session) => session,
         Err(status) => return status,
     };
@@ -228,17 +230,22 @@ fn small_level(level: Option<u64>) -> Result<Option<u32>, TryFromIntError> {
     }
 }
 
-// A session over the folder. `Err` is the status if it can't be opened, which is said.
+// A session over the folder, whose files are mended first or not. `Err` is the status if it can't
+// be opened or mended, which is said.
 fn begin<K: KeyOrder, F: Write>(
     rt: &HostRuntime,
     target: Target<'_>,
     numbers: Numbers,
+    mends: bool,
     faults: &mut F,
 ) -> Result<Session<Folder, K>, u8> {
     let Some(options) = numbers.options() else {
         return Err(MISUSED);
     };
-    let store = open(rt, target.folder, faults)?;
+    let mut store = open(rt, target.folder, faults)?;
+    if mends {
+        mend_first::<K, F>(rt, target.folder, &mut store, faults)?;
+    }
     let meter = if target.watched {
         Meter::new(rt, None)
     } else {

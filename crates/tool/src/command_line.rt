@@ -2,7 +2,7 @@
 
 ghost use Rattle.std.specs.Prelude.{◌≡◌, IfOk};
 ghost use Rattle.clap.specs.Words.{App, new_app, with_subcommand};
-ghost use Rattle.tool.specs.CommandLine.{the_app, get_app, scan_app, export_app, stats_app, check_app, dump_app, run_app, import_app, compact_app, put_app, del_app, with_readers, with_writers, with_place, with_options, with_bounds, with_range, with_notation, with_style, IsCommand};
+ghost use Rattle.tool.specs.CommandLine.{the_app, get_app, scan_app, export_app, stats_app, check_app, dump_app, run_app, import_app, compact_app, mend_app, put_app, del_app, with_readers, with_writers, with_place, with_options, with_bounds, with_range, with_notation, with_style, IsCommand};
 
 use crate::arguments::{
     base_bytes, batch, block_bytes, bound, cache_blocks, file_bytes, flag, folder, given, keys,
@@ -48,7 +48,8 @@ fn add_writers<'a>(alloc: Global, command: Command<'a>) -> Result<Command<'a>, A
     let second = add(first, import(alloc))?;
     let third = add(second, compact(alloc))?;
     let fourth = add(third, put(alloc))?;
-    let whole = add(fourth, del(alloc))?;
+    let fifth = add(fourth, del(alloc))?;
+    let whole = add(fifth, mend(alloc))?;
     Ok(whole)
 }
 
@@ -130,7 +131,8 @@ fn run<'a>(alloc: Global) -> Result<Command<'a>, AllocError>
     let bare = named(alloc, "run", help::RUN, help::SCRIPT);
     let first = bare.arg(work(alloc))?;
     let second = first.arg(flag(alloc, "strict", help::STRICT))?;
-    let numbered = add_options(alloc, second)?;
+    let third = second.arg(flag(alloc, "mend", help::MEND_FIRST))?;
+    let numbered = add_options(alloc, third)?;
     let whole = add_place(alloc, numbered)?;
     Ok(whole)
 }
@@ -142,7 +144,8 @@ fn import<'a>(alloc: Global) -> Result<Command<'a>, AllocError>
     let first = bare.arg(batch(alloc))?;
     let second = first.arg(flag(alloc, "sync", help::SYNC))?;
     let third = second.arg(flag(alloc, "create", help::CREATE))?;
-    let numbered = add_options(alloc, third)?;
+    let fourth = third.arg(flag(alloc, "mend", help::MEND_FIRST))?;
+    let numbered = add_options(alloc, fourth)?;
     let whole = add_place(alloc, numbered)?;
     Ok(whole)
 }
@@ -152,7 +155,8 @@ fn compact<'a>(alloc: Global) -> Result<Command<'a>, AllocError>
 {
     let bare = named(alloc, "compact", help::COMPACT, help::MERGED);
     let first = bare.arg(level(alloc))?;
-    let numbered = add_options(alloc, first)?;
+    let second = first.arg(flag(alloc, "mend", help::MEND_FIRST))?;
+    let numbered = add_options(alloc, second)?;
     let whole = add_place(alloc, numbered)?;
     Ok(whole)
 }
@@ -175,6 +179,16 @@ fn del<'a>(alloc: Global) -> Result<Command<'a>, AllocError>
     let first = bare.arg(flag(alloc, "text", help::DEL_TEXT))?;
     let placed = add_place(alloc, first)?;
     let whole = placed.arg(given(alloc, "KEY", help::KEY))?;
+    Ok(whole)
+}
+
+fn mend<'a>(alloc: Global) -> Result<Command<'a>, AllocError>
+    ensures { IfOk result (λ command. IsCommand command mend_app) }
+{
+    let bare = named(alloc, "mend", help::MEND, help::MENDED);
+    let first = bare.arg(flag(alloc, "dry-run", help::DRY_RUN))?;
+    let second = first.arg(flag(alloc, "holes", help::HOLES))?;
+    let whole = add_place(alloc, second)?;
     Ok(whole)
 }
 

@@ -12,7 +12,7 @@ Examples:
   ldbtool check mydb
 Keys and values are hexadecimal, `-` for no bytes; with --text they are text, in
 which \\\\ is a backslash and \\xNN a byte. get, scan, export, stats, check and dump
-change nothing. run, import, put, del and compact write.
+change nothing. run, import, put, del, compact and mend write.
 
 Exit status:
   0  all was done; a line of a script may have been refused, which its answer says
@@ -289,6 +289,44 @@ Example:
   $ ldbtool del --text few name
   $ ldbtool scan --count few
   0";
+
+pub const MEND: &str = "Cuts off the zeros that a power loss left in the MANIFEST and in logs";
+
+pub const MEND_FIRST: &str = "Before the open, do what `ldbtool mend` does";
+
+pub const DRY_RUN: &str = "Print what would be cut, and change nothing";
+
+pub const HOLES: &str = "Cut a log also if other bytes stand after its zeros; these go, too";
+
+pub const MENDED: &str = "\
+After a power loss, ext4 may leave zeros at the end of the MANIFEST and of logs,
+for bytes that were never synced. Such a directory is refused as Corrupt. This
+cuts each of these files after its last whole record. It prints
+  FILE at BYTE zeros N broken N       for each file that is cut
+  nothing to mend                     if there is none
+BYTE is where the file ends now. `broken` counts the bytes of a record cut short,
+which stood before the zeros. What was synced stays. Any other damage is refused
+as `refused 5 Corrupt`, and nothing is changed then; standard error has the file
+and the byte. A backup, or LevelDB's RepairDB over a copy, helps then.
+
+It takes the lock, and reads each file before it writes one. A file is replaced
+by a temporary one, so a crash leaves it as it was or mended. It gives the lock
+back before it ends. With --mend, run, import and compact mend first, without
+--holes; the lock is free for a moment before they open the database.
+
+With --holes a log is also cut where zeros stand in its middle, as some devices
+leave it. Standard error says how many whole records stand after that: they go,
+too. If a power loss left these zeros, nothing that was synced is among them; any
+other damage may look like that, so look first, by --dry-run. It takes no lock.
+
+Exit status:
+  0  the directory was mended, or needs nothing; with --dry-run, it could be
+  1  it was refused, DIR can't be opened, or the output can't be written
+  2  the command line is wrong
+
+Example:
+  $ ldbtool mend mydb
+  nothing to mend";
 
 pub const CHECK: &str =
     "Reads every file, and prints `good` and what there is, `empty`, or the refusal";

@@ -3,9 +3,11 @@
 #![tactic(auto)]
 
 mod arguments;
+mod behind;
 mod changing;
 mod command_line;
 mod counts;
+mod cuts;
 mod each_file;
 mod entry_line;
 mod finding;
@@ -15,6 +17,7 @@ mod inspect;
 mod keys;
 mod line_counter;
 mod looking;
+mod mend;
 mod program;
 mod progress;
 mod reasons;
@@ -24,15 +27,19 @@ mod status;
 mod sums;
 mod task;
 mod telling;
+mod unmendable;
 mod why;
 mod words;
+mod zeros;
 
 pub use counts::stats;
+pub use cuts::{make_cuts, show_cuts};
 pub use each_file::dump_sound;
 pub use inspect::{check, dump};
 pub use program::{Terminals, start};
 pub use saying::refuse_words;
 pub use task::{
-    Bounds, Lookup, Named, Notation, Numbers, OrderName, Pair, Pieces, Place, Search, Task, Turns,
+    Bounds, Lookup, Mending, Named, Notation, Numbers, OrderName, Pair, Pieces, Place, Search,
+    Task, Turns,
 };
 pub use words::{Misuse, settings};

@@ -10,6 +10,7 @@ use crate::status::{DONE, FAILED};
 use crate::sums::Sums;
 use crate::task::Notation;
 use crate::telling::Telling;
+use crate::zeros::say_if_mendable;
 use coding::DbError;
 use ikey::KeyOrder;
 use reader::ReadOnly;
@@ -59,21 +60,25 @@ fn say_help<K: KeyOrder, F: Write>(
     faults: &mut F,
 ) {
     match first {
-        Some((error, noted)) => say_what_helps::<K, F>(rt, folder, error, noted, faults),
+        Some((error, noted)) => {
+            if !say_if_mendable::<K, F>(rt, folder, error, noted, faults) {
+                say_what_helps::<K, F>(rt, folder, error, noted, faults);
+            }
+        }
         None => {}
     }
 }
 
-// Whether a refusal was printed.
-fn is_refused(done: &Result<u8, Fault>) -> bool {
+/// Returns whether a refusal was printed.
+pub fn is_refused(done: &Result<u8, Fault>) -> bool {
     match done {
         Ok(status) => *status == FAILED,
         Err(_) => false,
     }
 }
 
-// Says that there is no database, if what was done found none. (A good directory has a `CURRENT`.)
-fn say_if_none<S: Store, F: Write>(status: u8, store: &mut S, folder: &str, faults: &mut F) {
+/// Says that there is no database, if what was done found none. (A good directory has a `CURRENT`.)
+pub fn say_if_none<S: Store, F: Write>(status: u8, store: &mut S, folder: &str, faults: &mut F) {
     if status == DONE && has_no_current(store) {
         say_no_current(faults, folder);
     }
@@ -173,7 +178,7 @@ fn say_help_of_directory<K: KeyOrder, F: Write>(
     faults: &mut F,
 ) {
     if let Err(error) = overview_of::<K, Folder>(rt.alloc(), store) {
-        say_what_helps::<K, F>(rt, folder, error, store.noted(), faults);
+        say_help::<K, F>(rt, folder, Some((error, store.noted())), faults);
     }
 }
 

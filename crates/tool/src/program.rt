@@ -3,6 +3,7 @@
 use crate::changing::{compact, del, import, put, run};
 use crate::finding::{export, get, scan};
 use crate::looking::{check_folder, dump_folder, dump_sound_files, stats_folder};
+use crate::mend::mend_folder;
 use crate::progress::Target;
 use crate::saying::{greet, greet_import, refuse};
 use crate::task::{OrderName, Task};
@@ -89,9 +90,10 @@ fn perform<K: KeyOrder, R: Read + Drop, W: Write, F: Write>(
             }
             import::<K, R, W, F>(rt, target, *numbers, *pieces, reader, writer, faults)
         }
-        Task::Compact(_, numbers, level) => {
-            compact::<K, W, F>(rt, target, *numbers, *level, writer, faults)
+        Task::Compact(_, numbers, level, mends) => {
+            compact::<K, W, F>(rt, target, *numbers, *level, *mends, writer, faults)
         }
+        Task::Mend(_, mending) => mend_folder::<K, W, F>(rt, folder, *mending, writer, faults),
         Task::Put(_, pair) => put::<K, F>(rt, folder, pair, faults),
         Task::Del(_, named) => del::<K, F>(rt, folder, named, faults),
     }

@@ -27,8 +27,11 @@ pub enum Task<'a> {
     Run(Place<'a>, Numbers, Turns),
     /// Write the operations of a file's lines.
     Import(Place<'a>, Numbers, Pieces),
-    /// Merge the tables of this level into the next, or all of them.
-    Compact(Place<'a>, Numbers, Option<u64>),
+    /// Merge the tables of this level into the next, or all of them; mend the directory first or
+    /// not.
+    Compact(Place<'a>, Numbers, Option<u64>, bool),
+    /// Cut off what a power loss left with zeros.
+    Mend(Place<'a>, Mending),
     /// Write one pair.
     Put(Place<'a>, Pair<'a>),
     /// Delete one key.
@@ -103,21 +106,31 @@ pub struct Named<'a> {
     pub form: Form,
 }
 
-/// How a script is run: whether work is done after each write, and whether the first refusal ends
-/// it.
+/// How a script is run: whether work is done after each write, whether the first refusal ends it,
+/// and whether the directory is mended first.
 #[derive(Clone, Copy, Debug, PartialEq, Eq)]
 pub struct Turns {
     pub works: bool,
     pub strict: bool,
+    pub mends: bool,
 }
 
-/// How an import goes: how many operations a batch has, whether each one is synced, and whether the
-/// folder is made if it isn't there.
+/// How a directory is mended: whether it is only said what would be done, and whether logs are cut
+/// where they have zeros with other bytes after them.
+#[derive(Clone, Copy, Debug, PartialEq, Eq)]
+pub struct Mending {
+    pub dry_run: bool,
+    pub holes: bool,
+}
+
+/// How an import goes: how many operations a batch has, whether each one is synced, whether the
+/// folder is made if it isn't there, and whether the directory is mended first.
 #[derive(Clone, Copy, Debug, PartialEq, Eq)]
 pub struct Pieces {
     pub batch: u64,
     pub sync: bool,
     pub create: bool,
+    pub mends: bool,
 }
 
 /// The options of a database, as the command line has them.
@@ -160,7 +173,8 @@ impl<'a> Task<'a> {
             Task::Dump(place, _, _) => *place,
             Task::Run(place, _, _) => *place,
             Task::Import(place, _, _) => *place,
-            Task::Compact(place, _, _) => *place,
+            Task::Compact(place, _, _, _) => *place,
+            Task::Mend(place, _) => *place,
             Task::Put(place, _) => *place,
             Task::Del(place, _) => *place,
         }

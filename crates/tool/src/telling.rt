@@ -3,6 +3,7 @@
 use crate::hints::{is_of_one_file, say_what_helps};
 use crate::saying::{say_how_to_see, say_of_directory, say_of_line, say_of_misread};
 use crate::why::say_why;
+use crate::zeros::say_if_mendable;
 use coding::DbError;
 use ikey::KeyOrder;
 use script::{Listener, Refusal};
@@ -53,6 +54,9 @@ impl<'a, F: Write> Telling<'a, F> {
         match self.first {
             None => {}
             Some((error, noted)) => {
+                if say_if_mendable::<K, F>(rt, folder, error, noted, self.faults) {
+                    return;
+                }
                 if shows_more(error) {
                     say_how_to_see(self.faults, folder);
                 } else {

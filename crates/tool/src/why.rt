@@ -42,8 +42,8 @@ pub fn say_noted<F: Write>(faults: &mut F, folder: &str, noted: Trouble) {
     }
 }
 
-// A folder without the slash at its end.
-fn before_slash(folder: &str) -> &str {
+/// Returns a folder without the slash at its end.
+pub fn before_slash(folder: &str) -> &str {
     match folder.strip_suffix('/') {
         Some(before) => before,
         None => folder,

@@ -5,11 +5,12 @@ ghost use Rattle.std.specs.Prelude.{string_bytes, codes};
 ghost use Rattle.clap.specs.Words.{app_of, found_of, first_of, is_simple, rows_of, subcommand_of, subcommand_rows_of};
 ghost use Rattle.browse.specs.declared.style.Style.TheVariants as style;
 ghost use Rattle.tool.specs.CommandLine.{the_app};
-ghost use Rattle.tool.specs.Tasks.{IsTask, AsksForIn, AreBounds, ArePieces, AreTurns, AreWords, HaveNumbers, IsFlag, IsLookup, IsNamed, IsNotation, IsNumberOf, IsOptional, IsOrderOf, IsPair, IsPlace, IsSearch, IsStyle, IsWord, form_of, notation_of, style_of, work_word};
+ghost use Rattle.tool.specs.Tasks.{IsTask, AsksForIn, AreBounds, ArePieces, AreTurns, AreWords, HaveNumbers, IsFlag, IsLookup, IsMending, IsNamed, IsNotation, IsNumberOf, IsOptional, IsOrderOf, IsPair, IsPlace, IsSearch, IsStyle, IsWord, form_of, notation_of, style_of, work_word};
 
 use crate::command_line::command;
 use crate::task::{
-    Bounds, Lookup, Named, Notation, Numbers, OrderName, Pair, Pieces, Place, Search, Task, Turns,
+    Bounds, Lookup, Mending, Named, Notation, Numbers, OrderName, Pair, Pieces, Place, Search,
+    Task, Turns,
 };
 use browse::{Form, Style};
 use clap::{ArgMatches, Error};
@@ -91,6 +92,9 @@ fn read_task<'a>(alloc: Global, matches: &ArgMatches<'a>) -> Option<Task<'a>>
     if name == "del" {
         return Some(Task::Del(place, read_named(found)?));
     }
+    if name == "mend" {
+        return Some(Task::Mend(place, read_mending(found)?));
+    }
     let numbers = read_numbers(found)?;
     if name == "run" {
         return Some(Task::Run(place, numbers, read_turns(found)?));
@@ -99,7 +103,8 @@ fn read_task<'a>(alloc: Global, matches: &ArgMatches<'a>) -> Option<Task<'a>>
         return Some(Task::Import(place, numbers, read_pieces(found)?));
     }
     if name == "compact" {
-        return Some(Task::Compact(place, numbers, read_optional(found, "level")?));
+        let level = read_optional(found, "level")?;
+        return Some(Task::Compact(place, numbers, level, read_flag(found, "mend")?));
     }
     None
 }
@@ -285,7 +290,12 @@ fn read_turns(found: &ArgMatches<'_>) -> Option<Turns>
 {
     let works = read_work(found)?;
     let strict = read_flag(found, "strict")?;
-    Some(Turns { works, strict })
+    let mends = read_flag(found, "mend")?;
+    Some(Turns {
+        works,
+        strict,
+        mends,
+    })
 }
 
 // Whether --work is given, if its word is `auto`.
@@ -307,11 +317,21 @@ fn read_pieces(found: &ArgMatches<'_>) -> Option<Pieces>
     let batch = read_number(found, "batch")?;
     let sync = read_flag(found, "sync")?;
     let create = read_flag(found, "create")?;
+    let mends = read_flag(found, "mend")?;
     Some(Pieces {
         batch,
         sync,
         create,
+        mends,
     })
+}
+
+fn read_mending(found: &ArgMatches<'_>) -> Option<Mending>
+    ensures { IfSome result (IsMending (rows_of (found_of found.now))) }
+{
+    let dry_run = read_flag(found, "dry-run")?;
+    let holes = read_flag(found, "holes")?;
+    Some(Mending { dry_run, holes })
 }
 
 // The numbers, if each is in its range.

@@ -1,9 +1,11 @@
 use Rattle.std.proofs.Common.{List, subst, sym}
 use Rattle.std.proofs.lemmas.Result.{err_from_is_err_and}
 use Rattle.store.specs.Stops.{LeavesOnly}
-use Rattle.mending.specs.Mending.{AreBetween, AreDone, AreLogged}
+use Rattle.mending.specs.Losing.{HaveNamesStayed, LosesBy}
+use Rattle.mending.specs.Mending.{AreBetween, AreBetweenLost, AreDone, AreLogged}
 use Rattle.mending.specs.Plans.{IsBeyond, IsUnmendable}
 use Rattle.mending.specs.declared.finding.Cut.{Cut}
+use Rattle.mending.proofs.LosingCuts.{planned_loses, read_loses}
 use Rattle.mending.proofs.Saying.{refuses_later}
 use Rattle.mending.proofs.Writing.{writes_both}
 use Rattle.mending.proofs.Leaving.{writes_of, read_stops, locked_stops, locked_mends}
@@ -64,3 +66,33 @@ returns-clause-stops g c f =
     let m = c.in_ok-apply.ensures.writes.faithful f in
     locked_stops g.K.KeyOrder.name c.args.ends old mid new c.in_ok-plan.plan.manifest c.in_ok-plan.plan.cuts.items c.in_ok-plan.ensures.reads m (c.in_ok-plan.ensures.found m)
     (subst (λ (cs : List Cut). LeavesOnly mid new (AreBetween cs mid.files)) c.deref.ensures.value (c.in_ok-apply.ensures.stops f))
+
+-- ---- what a power loss leaves
+
+pub returns-in_err-plan-clause-loses : goal.returns-in_err-plan-clause-loses
+returns-in_err-plan-clause-loses g c f stayed = read_loses g.K.KeyOrder.name c.args.ends (g.S.Store.facts c.args.store.now) (g.S.Store.facts c.plan_cuts.new.store) c.in_err-plan.ensures.reads f
+
+pub returns-in_err-apply-clause-loses : goal.returns-in_err-apply-clause-loses
+returns-in_err-apply-clause-loses g c f stayed =
+    let old = g.S.Store.facts c.args.store.now in
+    let mid = g.S.Store.facts c.plan_cuts.new.store in
+    let new = g.S.Store.facts c.apply.new.store in
+    let m = c.in_err-apply.ensures.writes.faithful f in
+    let done = c.in_err-apply.ensures in
+    planned_loses g.K.KeyOrder.name c.args.ends old mid new c.in_ok-plan.plan.manifest c.in_ok-plan.plan.cuts.items c.in_ok-plan.ensures.reads m (c.in_ok-plan.ensures.found m)
+    (subst (λ (cs : List Cut). LeavesOnly mid new (AreBetween cs mid.files)) c.deref.ensures.value (done.stops f))
+    (subst (λ (cs : List Cut). HaveNamesStayed mid → LosesBy mid new (AreBetweenLost cs)) c.deref.ensures.value (done.loses f)) stayed
+
+pub returns-clause-loses : goal.returns-clause-loses
+returns-clause-loses g c f stayed =
+    let old = g.S.Store.facts c.args.store.now in
+    let mid = g.S.Store.facts c.plan_cuts.new.store in
+    let new = g.S.Store.facts c.apply.new.store in
+    let m = c.in_ok-apply.ensures.writes.faithful f in
+    let done = c.in_ok-apply.ensures in
+    planned_loses g.K.KeyOrder.name c.args.ends old mid new c.in_ok-plan.plan.manifest c.in_ok-plan.plan.cuts.items c.in_ok-plan.ensures.reads m (c.in_ok-plan.ensures.found m)
+    (subst (λ (cs : List Cut). LeavesOnly mid new (AreBetween cs mid.files)) c.deref.ensures.value (done.stops f))
+    (subst (λ (cs : List Cut). HaveNamesStayed mid → LosesBy mid new (AreBetweenLost cs)) c.deref.ensures.value (done.loses f)) stayed
+
+pub returns-clause-planned : goal.returns-clause-planned
+returns-clause-planned g c f = c.in_ok-plan.ensures.found (c.in_ok-apply.ensures.writes.faithful f)

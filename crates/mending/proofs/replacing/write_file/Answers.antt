@@ -1,7 +1,8 @@
 use Rattle.std.proofs.Common.{Err, sym, subst, arith}
 use Rattle.coding.specs.declared.error.DbError.{DbError}
 use Rattle.mending.specs.Calls.{RefusesMend}
-use Rattle.mending.proofs.Writing.{refused_later, created_stops, appended_stops, synced_stops, written}
+use Rattle.mending.proofs.LosingFiles.{appended_only, created_only, created_synced, synced_only, written_durable}
+use Rattle.mending.proofs.Writing.{refused_later}
 use Rattle.mending.proofs.replacing.write_file.Goals as goal
 
 pub returns-in-Err-clause-refused : goal.returns-in-Err-clause-refused
@@ -10,23 +11,12 @@ returns-in-Err-clause-refused g c =
     let new = g.S.Store.facts c.create.new.self in
     subst (λ (e : DbError). RefusesMend e old new ⊥ ⊥) (sym c.refusal_of.ensures) (refused_later old old new c.in-Err.error (omega arith) c.in-Err.ensures.counts (λ e. c.in-Err.ensures.missing (λ i. Err (e i))))
 
-pub returns-in-Err-clause-stops : goal.returns-in-Err-clause-stops
-returns-in-Err-clause-stops g c f = created_stops (g.S.Store.facts c.args.store.now) (g.S.Store.facts c.create.new.self) c.args.name.now (c.create.ensures.calls.noted f)
-
 pub returns-in-Err-append-clause-refused : goal.returns-in-Err-append-clause-refused
 returns-in-Err-append-clause-refused g c =
     let old = g.S.Store.facts c.args.store.now in
     let mid = g.S.Store.facts c.create.new.self in
     let new = g.S.Store.facts c.append.new.self in
     subst (λ (e : DbError). RefusesMend e old new ⊥ ⊥) (sym c.refusal_of-in-Err-append.ensures) (refused_later old mid new c.in-Err-append.error c.create.ensures.counts.failures c.in-Err-append.ensures.counts (λ e. c.in-Err-append.ensures.missing (λ i. Err (e i))))
-
-pub returns-in-Err-append-clause-stops : goal.returns-in-Err-append-clause-stops
-returns-in-Err-append-clause-stops g c f =
-    let old = g.S.Store.facts c.args.store.now in
-    let mid = g.S.Store.facts c.create.new.self in
-    let m = c.append.ensures.counts.faithful f in
-    appended_stops old mid (g.S.Store.facts c.append.new.self) c.args.name.now c.args.bytes.now
-    (created_stops old mid c.args.name.now (c.create.ensures.calls.noted m)) (c.append.ensures.calls.noted f)
 
 pub returns-in-Err-sync-clause-refused : goal.returns-in-Err-sync-clause-refused
 returns-in-Err-sync-clause-refused g c =
@@ -35,31 +25,52 @@ returns-in-Err-sync-clause-refused g c =
     let new = g.S.Store.facts c.sync.new.self in
     subst (λ (e : DbError). RefusesMend e old new ⊥ ⊥) (sym c.refusal_of-in-Err-sync.ensures) (refused_later old most new c.in-Err-sync.error (omega (arith, c.create.ensures.counts.failures, c.append.ensures.counts.failures)) c.in-Err-sync.ensures.counts (λ e. c.in-Err-sync.ensures.missing (λ i. Err (e i))))
 
-pub returns-in-Err-sync-clause-stops : goal.returns-in-Err-sync-clause-stops
-returns-in-Err-sync-clause-stops g c f =
+-- ---- it alone is written
+
+pub returns-in-Err-clause-only : goal.returns-in-Err-clause-only
+returns-in-Err-clause-only g c f =
+    let old = g.S.Store.facts c.args.store.now in
+    let mid = g.S.Store.facts c.create.new.self in
+    created_only old mid c.args.temporary.now (c.create.ensures.calls.noted f) (created_synced old mid c.args.temporary.now c.create.result c.create.ensures.missing c.create.ensures.synced f)
+
+pub returns-in-Err-append-clause-only : goal.returns-in-Err-append-clause-only
+returns-in-Err-append-clause-only g c f =
+    let old = g.S.Store.facts c.args.store.now in
+    let mid = g.S.Store.facts c.create.new.self in
+    let m = c.append.ensures.counts.faithful f in
+    appended_only old mid (g.S.Store.facts c.append.new.self) c.args.temporary.now c.args.bytes.now
+    (created_only old mid c.args.temporary.now (c.create.ensures.calls.noted m) (created_synced old mid c.args.temporary.now c.create.result c.create.ensures.missing c.create.ensures.synced m))
+    (c.append.ensures.calls.noted f) (c.append.ensures.synced f)
+
+pub returns-in-Err-sync-clause-only : goal.returns-in-Err-sync-clause-only
+returns-in-Err-sync-clause-only g c f =
     let old = g.S.Store.facts c.args.store.now in
     let mid = g.S.Store.facts c.create.new.self in
     let most = g.S.Store.facts c.append.new.self in
     let l = c.sync.ensures.counts.faithful f in
     let m = c.append.ensures.counts.faithful l in
-    synced_stops old most (g.S.Store.facts c.sync.new.self) c.args.name.now _ c.sync.result
-    (appended_stops old mid most c.args.name.now c.args.bytes.now (created_stops old mid c.args.name.now (c.create.ensures.calls.noted m)) (c.append.ensures.calls.noted l))
-    (c.sync.ensures.calls.ok f) (c.sync.ensures.calls.err f) (c.sync.ensures.same f)
+    synced_only old most (g.S.Store.facts c.sync.new.self) c.args.temporary.now c.sync.result
+    (appended_only old mid most c.args.temporary.now c.args.bytes.now
+    (created_only old mid c.args.temporary.now (c.create.ensures.calls.noted m) (created_synced old mid c.args.temporary.now c.create.result c.create.ensures.missing c.create.ensures.synced m))
+    (c.append.ensures.calls.noted l) (c.append.ensures.synced l))
+    (c.sync.ensures.calls.ok f) (c.sync.ensures.calls.err f) (c.sync.ensures.same f) (c.sync.ensures.synced f) (c.sync.ensures.unsynced f)
+
+pub returns-clause-only : goal.returns-clause-only
+returns-clause-only g c f =
+    let old = g.S.Store.facts c.args.store.now in
+    let mid = g.S.Store.facts c.create.new.self in
+    let most = g.S.Store.facts c.append.new.self in
+    let l = c.sync.ensures.counts.faithful f in
+    let m = c.append.ensures.counts.faithful l in
+    synced_only old most (g.S.Store.facts c.sync.new.self) c.args.temporary.now c.sync.result
+    (appended_only old mid most c.args.temporary.now c.args.bytes.now
+    (created_only old mid c.args.temporary.now (c.create.ensures.calls.noted m) (created_synced old mid c.args.temporary.now c.create.result c.create.ensures.missing c.create.ensures.synced m))
+    (c.append.ensures.calls.noted l) (c.append.ensures.synced l))
+    (c.sync.ensures.calls.ok f) (c.sync.ensures.calls.err f) (c.sync.ensures.same f) (c.sync.ensures.synced f) (c.sync.ensures.unsynced f)
 
 pub returns-clause-written : goal.returns-clause-written
 returns-clause-written g c f =
     let l = c.sync.ensures.counts.faithful f in
     let m = c.append.ensures.counts.faithful l in
-    written (g.S.Store.facts c.args.store.now).files (g.S.Store.facts c.create.new.self).files (g.S.Store.facts c.append.new.self).files (g.S.Store.facts c.sync.new.self).files c.args.name.now c.args.bytes.now
-    (c.in_default.ensures.files.ok m) (c.in_default-append.ensures.files.ok l) (c.sync.ensures.same f)
-
-pub returns-clause-stops : goal.returns-clause-stops
-returns-clause-stops g c f =
-    let old = g.S.Store.facts c.args.store.now in
-    let mid = g.S.Store.facts c.create.new.self in
-    let most = g.S.Store.facts c.append.new.self in
-    let l = c.sync.ensures.counts.faithful f in
-    let m = c.append.ensures.counts.faithful l in
-    synced_stops old most (g.S.Store.facts c.sync.new.self) c.args.name.now _ c.sync.result
-    (appended_stops old mid most c.args.name.now c.args.bytes.now (created_stops old mid c.args.name.now (c.create.ensures.calls.noted m)) (c.append.ensures.calls.noted l))
-    (c.sync.ensures.calls.ok f) (c.sync.ensures.calls.err f) (c.sync.ensures.same f)
+    written_durable (g.S.Store.facts c.args.store.now) (g.S.Store.facts c.create.new.self) (g.S.Store.facts c.append.new.self) (g.S.Store.facts c.sync.new.self) c.args.temporary.now c.args.bytes.now
+    (c.in_default.ensures.files.ok m) (c.in_default-append.ensures.files.ok l) (c.sync.ensures.same f) (c.in_default-sync.ensures.synced f) (c.in_default-sync.ensures.calls.ok f)

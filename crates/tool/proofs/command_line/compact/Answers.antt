@@ -4,5 +4,6 @@ use Rattle.tool.proofs.command_line.compact.Goals as goal
 pub returns : goal.returns
 returns c =
     let first = add_arg c.named-bare.result c.in_ok-first.first c.level.result _ _ c.named-bare.ensures c.level.ensures c.in_ok-first.ensures in
-    let numbered = c.in_ok-numbered.ensures _ first in
+    let second = add_arg c.in_ok-first.first c.in_ok-second.second c.flag.result _ _ first c.flag.ensures c.in_ok-second.ensures in
+    let numbered = c.in_ok-numbered.ensures _ second in
     c.in_ok-whole.ensures _ numbered

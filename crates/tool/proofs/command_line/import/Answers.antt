@@ -6,5 +6,6 @@ returns c =
     let first = add_arg c.named-bare.result c.in_ok-first.first c.batch.result _ _ c.named-bare.ensures c.batch.ensures c.in_ok-first.ensures in
     let second = add_arg c.in_ok-first.first c.in_ok-second.second c.flag.result _ _ first c.flag.ensures c.in_ok-second.ensures in
     let third = add_arg c.in_ok-second.second c.in_ok-third.third c.flag-2.result _ _ second c.flag-2.ensures c.in_ok-third.ensures in
-    let numbered = c.in_ok-numbered.ensures _ third in
+    let fourth = add_arg c.in_ok-third.third c.in_ok-fourth.fourth c.flag-3.result _ _ third c.flag-3.ensures c.in_ok-fourth.ensures in
+    let numbered = c.in_ok-numbered.ensures _ fourth in
     c.in_ok-whole.ensures _ numbered

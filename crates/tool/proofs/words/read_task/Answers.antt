@@ -2,7 +2,7 @@ use Rattle.std.proofs.Common.{sym}
 use Rattle.std.specs.Prelude.{codes}
 use Rattle.std.proofs.lemmas.Slice.Eq.{bytes_eq-Decides}
 use Rattle.clap.specs.Words.{found_of, rows_of}
-use Rattle.tool.specs.declared.task.Task.TheVariants.{Get, Scan, Export, Check, Stats, Dump, Put, Del, Run, Import, Compact}
+use Rattle.tool.specs.declared.task.Task.TheVariants.{Get, Scan, Export, Check, Stats, Dump, Put, Del, Mend, Run, Import, Compact}
 use Rattle.tool.proofs.Found.{asks_for}
 use Rattle.tool.proofs.words.read_task.Goals as goal
 
@@ -56,18 +56,24 @@ returns-then-eq-8 c =
 
 pub returns-then-eq-9 : goal.returns-then-eq-9
 returns-then-eq-9 c =
-    let named = (bytes_eq-Decides c.in_ok-name.name.now (codes "run")).0 (sym c.if-eq-9.ensures) in
-    asks_for c.args.matches.now c.in_ok-name.name.now (rows_of (found_of c.in_ok-name.found.now)) (Run c.in_ok-place.place c.in_ok-numbers.numbers c.in_ok-read_turns.field-0) c.in_ok-name.ensures.name
-    c.in_ok-name.ensures.rows (named, c.in_ok-place.ensures, c.in_ok-numbers.ensures, c.in_ok-read_turns.ensures)
+    let named = (bytes_eq-Decides c.in_ok-name.name.now (codes "mend")).0 (sym c.if-eq-9.ensures) in
+    asks_for c.args.matches.now c.in_ok-name.name.now (rows_of (found_of c.in_ok-name.found.now)) (Mend c.in_ok-place.place c.in_ok-read_mending.field-0) c.in_ok-name.ensures.name
+    c.in_ok-name.ensures.rows (named, c.in_ok-place.ensures, c.in_ok-read_mending.ensures)
 
 pub returns-then-eq-10 : goal.returns-then-eq-10
 returns-then-eq-10 c =
-    let named = (bytes_eq-Decides c.in_ok-name.name.now (codes "import")).0 (sym c.if-eq-10.ensures) in
-    asks_for c.args.matches.now c.in_ok-name.name.now (rows_of (found_of c.in_ok-name.found.now)) (Import c.in_ok-place.place c.in_ok-numbers.numbers c.in_ok-read_pieces.field-0) c.in_ok-name.ensures.name
-    c.in_ok-name.ensures.rows (named, c.in_ok-place.ensures, c.in_ok-numbers.ensures, c.in_ok-read_pieces.ensures)
+    let named = (bytes_eq-Decides c.in_ok-name.name.now (codes "run")).0 (sym c.if-eq-10.ensures) in
+    asks_for c.args.matches.now c.in_ok-name.name.now (rows_of (found_of c.in_ok-name.found.now)) (Run c.in_ok-place.place c.in_ok-numbers.numbers c.in_ok-read_turns.field-0) c.in_ok-name.ensures.name
+    c.in_ok-name.ensures.rows (named, c.in_ok-place.ensures, c.in_ok-numbers.ensures, c.in_ok-read_turns.ensures)
 
 pub returns-then-eq-11 : goal.returns-then-eq-11
 returns-then-eq-11 c =
-    let named = (bytes_eq-Decides c.in_ok-name.name.now (codes "compact")).0 (sym c.if-eq-11.ensures) in
-    asks_for c.args.matches.now c.in_ok-name.name.now (rows_of (found_of c.in_ok-name.found.now)) (Compact c.in_ok-place.place c.in_ok-numbers.numbers c.in_ok-read_optional.field-0) c.in_ok-name.ensures.name
-    c.in_ok-name.ensures.rows (named, c.in_ok-place.ensures, c.in_ok-numbers.ensures, c.in_ok-read_optional.ensures)
+    let named = (bytes_eq-Decides c.in_ok-name.name.now (codes "import")).0 (sym c.if-eq-11.ensures) in
+    asks_for c.args.matches.now c.in_ok-name.name.now (rows_of (found_of c.in_ok-name.found.now)) (Import c.in_ok-place.place c.in_ok-numbers.numbers c.in_ok-read_pieces.field-0) c.in_ok-name.ensures.name
+    c.in_ok-name.ensures.rows (named, c.in_ok-place.ensures, c.in_ok-numbers.ensures, c.in_ok-read_pieces.ensures)
+
+pub returns-then-eq-12 : goal.returns-then-eq-12
+returns-then-eq-12 c =
+    let named = (bytes_eq-Decides c.in_ok-name.name.now (codes "compact")).0 (sym c.if-eq-12.ensures) in
+    asks_for c.args.matches.now c.in_ok-name.name.now (rows_of (found_of c.in_ok-name.found.now)) (Compact c.in_ok-place.place c.in_ok-numbers.numbers c.in_ok-level.level c.in_ok-read_flag-4.field-0) c.in_ok-name.ensures.name
+    c.in_ok-name.ensures.rows (named, c.in_ok-place.ensures, c.in_ok-numbers.ensures, c.in_ok-level.ensures, c.in_ok-read_flag-4.ensures)

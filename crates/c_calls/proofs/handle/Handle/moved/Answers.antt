@@ -1,0 +1,40 @@
+use Rattle.std.proofs.Common.{sym, ap, subst}
+use Rattle.machine.specs.Causes.{Motion}
+use Rattle.c_calls.specs.Calls.{MoveDone, bytewise}
+use Rattle.c_calls.specs.Motions.{going}
+use Rattle.c_calls.proofs.handle.Handle.moved.Goals as goal
+
+pub returns-in-First : goal.returns-in-First
+returns-in-First g c =
+    let at : Motion → Type 0 =
+    λ to. MoveDone bytewise g.S.Store.facts c.args.id to c.args.self.now.db c.iter_first.new.self c.iter_first.result in
+    subst at (sym (ap going c.in-First.is))
+    (record { step = c.iter_first.ensures.step; outcome = c.iter_first.ensures.outcome; caused = c.iter_first.ensures.caused })
+
+pub returns-in-Last : goal.returns-in-Last
+returns-in-Last g c =
+    let at : Motion → Type 0 =
+    λ to. MoveDone bytewise g.S.Store.facts c.args.id to c.args.self.now.db c.iter_last.new.self c.iter_last.result in
+    subst at (sym (ap going c.in-Last.is))
+    (record { step = c.iter_last.ensures.step; outcome = c.iter_last.ensures.outcome; caused = c.iter_last.ensures.caused })
+
+pub returns-in-Seek : goal.returns-in-Seek
+returns-in-Seek g c =
+    let at : Motion → Type 0 =
+    λ to. MoveDone bytewise g.S.Store.facts c.args.id to c.args.self.now.db c.iter_seek.new.self c.iter_seek.result in
+    subst at (sym (ap going c.in-Seek.is))
+    (record { step = c.iter_seek.ensures.step; outcome = c.iter_seek.ensures.outcome; caused = c.iter_seek.ensures.caused })
+
+pub returns-in-Next : goal.returns-in-Next
+returns-in-Next g c =
+    let at : Motion → Type 0 =
+    λ to. MoveDone bytewise g.S.Store.facts c.args.id to c.args.self.now.db c.iter_next.new.self c.iter_next.result in
+    subst at (sym (ap going c.in-Next.is))
+    (record { step = c.iter_next.ensures.step; outcome = c.iter_next.ensures.outcome; caused = c.iter_next.ensures.caused })
+
+pub returns-in-Prev : goal.returns-in-Prev
+returns-in-Prev g c =
+    let at : Motion → Type 0 =
+    λ to. MoveDone bytewise g.S.Store.facts c.args.id to c.args.self.now.db c.iter_prev.new.self c.iter_prev.result in
+    subst at (sym (ap going c.in-Prev.is))
+    (record { step = c.iter_prev.ensures.step; outcome = c.iter_prev.ensures.outcome; caused = c.iter_prev.ensures.caused })

@@ -1,0 +1,4 @@
+pub mod Codes
+pub mod Told
+pub mod Calls
+pub mod Motions

@@ -1,0 +1,12 @@
+-- Where a motion goes.
+use Rattle.machine.specs.Causes.{ToFirst, ToLast, ToKey, ToNext, ToPrev}
+use Rattle.machine.specs.Causes.{Motion as Goal}
+use Rattle.c_calls.specs.declared.moves.Motion.{Motion}
+use Rattle.c_calls.specs.declared.moves.Motion.TheVariants.{First, Last, Seek, Next, Prev}
+
+abbrev pub going : Motion → Goal
+going First = ToFirst
+going Last = ToLast
+going (Seek key) = ToKey key.now
+going Next = ToNext
+going Prev = ToPrev

@@ -1,0 +1,31 @@
+// Opening.
+
+ghost use Rattle.std.specs.Prelude.{◌≡◌, IfOk};
+
+use crate::handle::Handle;
+use engine::{Db, Ids, Mode, OpenError, Options};
+use std::alloc::Global;
+use store::Store;
+
+/// The mode of a number.
+pub fn mode_of(mode: u32) -> Option<Mode> {
+    match mode {
+        0 => Some(Mode::Existing),
+        1 => Some(Mode::New),
+        2 => Some(Mode::Any),
+        _ => None,
+    }
+}
+
+/// Opens the database of a store.
+pub fn open<S: Store>(
+    alloc: Global,
+    store: S,
+    options: Options,
+    mode: Mode,
+) -> Result<Handle<S>, OpenError<S>> {
+    match Db::open(alloc, store, options, mode, Ids::first()) {
+        Ok(db) => Ok(Handle::of(alloc, db)),
+        Err(refused) => Err(refused),
+    }
+}

@@ -1,0 +1,4 @@
+pub mod OneLog
+pub mod Gathered
+pub mod OneLoss
+pub mod Consistent

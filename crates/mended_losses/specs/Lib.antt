@@ -1,0 +1,4 @@
+pub mod Consistent
+pub mod Laws
+pub mod Losses
+pub mod Reading

@@ -1,0 +1,3 @@
+pub mod BatchSlotParts
+pub mod Serving
+pub mod SlotParts
