@@ -16,12 +16,11 @@ use denote.Steps.{nothing}
 use denote.Struct.Struct.{within}
 use denote.Struct.Owning.{shape}
 use mir.Raw.{raw as bare}
-use Rattle.libc.specs.Heap.{chunk}
 use Rattle.core.specs.declared.option.Option.{Option}
 use Rattle.core.specs.declared.option.Option.TheVariants.{None, Some}
 use Rattle.std.specs.contracts.alloc.Global as heap
 use Rattle.std_alloc.specs.Box.Ownership.{box_owns}
-use Rattle.wachuspi.specs.Holding.{holds}
+use Rattle.wachuspi.specs.Holding.{holds, may_free}
 use Rattle.wachuspi.specs.contracts.held.Held as inner
 use Rattle.wachuspi.specs.contracts.slots.Slot as slot
 
@@ -45,17 +44,17 @@ word v = vstruct (vcons v vnil)
 module _ {M : Type 1} {𝓤 : Ura M} {𝓛 : Logic 𝓤} {K : Type 0} {Γ : List (Item 𝓤)} {G : Goal 𝓤 𝓛.H} where
   -- what holds a box
   pub slot_out : K → (d : Slot.Denot) (x : R.Denot) → d.held ≡ Some x → (vs : List Val)
-      → ((b o : ℕ) → vs ≡ word (vptr b o) ∷ [] → Seq K 𝓛 (‵ (box_owns chunk R (block_ptr b o) x) ∷ Γ) G)
+      → ((b o : ℕ) → vs ≡ word (vptr b o) ∷ [] → Seq K 𝓛 (‵ (box_owns may_free R (block_ptr b o) x) ∷ Γ) G)
       → Seq K 𝓛 (‵ (Slot.own_val d vs) ∷ Γ) G
   slot_out t d x e vs k =
       fsplit t $ fpick t (λ vss. fsplit t $ feq_l t (λ ev. fsplit t $ feq_l t (λ ep. drop t $
       rewrite t 0 (λ (y : Option R.Denot). ‵ (holds R d.at y)) e refl $
-      in_a_block t d.at (λ p. box_owns chunk R p x) (fst∗ 𝓤 (never 𝓤) (sem 𝓛 (chunk (bare (lone R.mir)) null_ptr))) (λ b o e'. k b o
+      in_a_block t d.at (λ p. box_owns may_free R p x) (fst∗ 𝓤 (never 𝓤) (sem 𝓛 (may_free (bare (lone R.mir)) null_ptr))) (λ b o e'. k b o
       (subst (λ (p : Ptr). vs ≡ vstruct (of_list (ptr_val p ∷ [])) ∷ []) e'
       (subst (λ (ps : List Val). vs ≡ vstruct (of_list (ps ++ [])) ∷ []) ep ev))))))
 
   pub slot_in : K → (b o : ℕ) (x : R.Denot)
-      → Step K 𝓛 (‵ (Slot.own_val (record { at = block_ptr b o; held = Some x }) (word (vptr b o) ∷ [])) ∷ Γ) G (‵ (box_owns chunk R (block_ptr b o) x) ∷ Γ) G
+      → Step K 𝓛 (‵ (Slot.own_val (record { at = block_ptr b o; held = Some x }) (word (vptr b o) ∷ [])) ∷ Γ) G (‵ (box_owns may_free R (block_ptr b o) x) ∷ Γ) G
   slot_in t b o x = step (λ s. let v : Val = word (vptr b o) in
       nothing t $ feq_i t (List Val) (vptr b o ∷ []) (vptr b o ∷ []) refl $ fjoin t $ feq_i t (List Val) (v ∷ []) (v ∷ []) refl $ fjoin t $
       fpack t (Valss (RawPtr ∷ [])) (within (shape slot.the_type) (block_ptr b o, tt) (v ∷ [])) (vptr b o ∷ [], tt) $ fjoin t $ s)
