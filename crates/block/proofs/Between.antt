@@ -1,15 +1,14 @@
 -- Keys that rise lie between two bounds where the first and the last do.
-use Rattle.std.proofs.Common.{◌≡◌, ◌⊎◌, ◌<◌, ◌≤◌, ℕ, zero, suc, inl, inr, Bool, true, false, MatchBool, Option, Some, None, List, [], ◌∷◌, ◌++◌, length, take, refl, sym, ap, ◌∙◌, subst, arith}
+use Rattle.std.proofs.Common.{◌≡◌, ◌⊎◌, ◌≤◌, ℕ, zero, suc, inl, inr, Bool, true, false, MatchBool, Option, Some, None, List, [], ◌∷◌, ◌++◌, length, take, refl, sym, ap, ◌∙◌, subst, arith}
 use Rattle.std.proofs.lemmas.List.{length-append}
-use Rattle.std.specs.List.{AllByRecursion}
 use Rattle.std.specs.Option.{ForSome}
 use Rattle.coding.specs.declared.error.ReadError.{ReadError}
 use Rattle.coding.specs.declared.error.ReadError.TheVariants.{Memory, Corrupt, Unsupported}
 use Rattle.ikey.specs.Entries.{Pair}
-use Rattle.block.specs.Block.{AreAbove, IsBlock, IsBody, IsEntry, Refuses, last_key_from}
+use Rattle.block.specs.Block.{AreAbove, IsBody, IsEntry, Refuses, last_key_from}
 use Rattle.block.proofs.EntryLaws.{entry_some}
 use Rattle.block.proofs.Rests.{opened}
-use Rattle.block.specs.Bounds.{AreBetween, IsBetween, IsFirstKey}
+use Rattle.block.specs.Bounds.{AreBetween, IsFirstKey}
 
 abbrev pub AtMost : (List ℕ → List ℕ → Type 0) → List ℕ → List ℕ → Type 0
 AtMost below key most = (key ≡ most) ⊎ below key most

@@ -4,6 +4,7 @@ pub mod BuilderLaws
 pub mod EntryLaws
 pub mod EntryParts
 pub mod Fronts
+pub mod Keeping
 pub mod Moves
 pub mod Opening
 pub mod Restarts

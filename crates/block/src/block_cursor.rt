@@ -1,7 +1,8 @@
 //! A place in a block (LevelDB's table/block.cc, Block::Iter).
 
-ghost use Rattle.std.specs.Prelude.{◌≡◌, ◌<◌, ◌≤◌, ◌*◌, ◌+◌, ◌++◌, List, ℕ, [], suc, None, length, take, MatchBool, IfOk, OnOk, OnErr};
+ghost use Rattle.std.specs.Prelude.{◌≡◌, ◌<◌, ◌≤◌, ◌*◌, ◌+◌, ◌++◌, ◌∷◌, List, ℕ, [], suc, true, Some, None, length, take, drop, MatchBool, IfOk, OnOk, OnErr};
 ghost use Rattle.block.specs.Reading.{pairs_of};
+ghost use Rattle.block.specs.Kept.{AreKept, last_end};
 ghost use Rattle.block.specs.Spots.{IsReadable, IsRead, IsBefore, IsFront, IsSpot, AreBelow, IsFound, HasRestarts, IsLastInFront, StartsBelow, StartsNotBelow, IsLastBelow};
 ghost use Rattle.block.specs.Block.{AreAbove};
 
@@ -14,24 +15,34 @@ use std::marker::Model;
 use std::mem;
 use std::rc::Rc;
 
-/// Holds an entry's key, and where in the block the entry lies.
-#[derive(Drop)]
-struct Spot {
-    key: Vec<u8>,
+/// Tells where in the block an entry lies: where it and its value begin, and the next entry.
+#[derive(Clone, Copy)]
+struct Extent {
     start: usize,
     value: usize,
     next: usize,
 }
 
+/// Holds an entry that was read on the way to a later one. Its key lies in a buffer of keys.
+#[derive(Clone, Copy)]
+struct Passed {
+    key: usize,
+    key_end: usize,
+    at: Extent,
+}
+
 /// Iterates over a block's entries. Going up, it keeps the key in one buffer, and reads each value
-/// in place; the other moves use a second buffer, until they have succeeded. Contracts see the
-/// block's list of pairs, and the index of the pair that the cursor stands on.
+/// in place; the other moves use a second buffer, until they have succeeded. Going down, it keeps
+/// the entries from a restart point on, so that a step back reads nothing while one is left.
+/// Contracts see the block's list of pairs, and the index of the pair that the cursor stands on.
 #[derive(Drop)]
 pub struct BlockCursor<O: EntryOrder> {
     block: Rc<Block<O>>,
-    here: Spot,
-    // what is being read, until the cursor stands there
-    spare: Spot,
+    key: Vec<u8>,
+    at: Extent,
+    // the key of what is being read, or the keys of the entries that are kept
+    spare: Vec<u8>,
+    passed: Vec<Passed>,
     stands: bool,
 }
 
@@ -43,10 +54,12 @@ impl<O: EntryOrder> Model for BlockCursor<O> {
     ghost use Rattle.std.specs.Prelude.{List, ℕ, Some, None, length, take, if◌then◌else◌};
     ghost use Rattle.block.specs.Reading.{pairs_of};
     ghost use Rattle.block.specs.Spots.{IsCursor};
+    ghost use Rattle.block.specs.Kept.{AreKept};
 
-    ghost view = { λ c. record { pairs = c.block.value.pairs; place = if c.stands then Some (length (pairs_of (take c.here.start c.block.value.body))) else None } };
+    ghost view = { λ c. record { pairs = c.block.value.pairs; place = if c.stands then Some (length (pairs_of (take c.at.start c.block.value.body))) else None } };
 
-    ghost invariant = { λ c. IsCursor c.block.value c.stands c.here.key.items c.here.start c.here.value c.here.next };
+    ghost invariant = { λ c. IsCursor c.block.value c.stands c.key.items c.at.start c.at.value c.at.next
+        × AreKept c.block.value.body c.spare.items c.passed.items };
 }
 
 impl<O: EntryOrder> BlockCursor<O> {
@@ -61,8 +74,10 @@ impl<O: EntryOrder> BlockCursor<O> {
         let _ = &block.bytes;
         BlockCursor {
             block,
-            here: new_spot(alloc),
-            spare: new_spot(alloc),
+            key: Vec::new(alloc),
+            at: begin_at(0),
+            spare: Vec::new(alloc),
+            passed: Vec::new(alloc),
             stands: false,
         }
     }
@@ -78,9 +93,12 @@ impl<O: EntryOrder> BlockCursor<O> {
             self.stands = false;
             return Ok(());
         }
-        start_at(&mut self.spare, 0);
-        step(body, &mut self.spare)?;
-        mem::swap(&mut self.here, &mut self.spare);
+        self.passed.clear();
+        self.spare.clear();
+        let mut at = begin_at(0);
+        step(body, &mut self.spare, &mut at)?;
+        mem::swap(&mut self.key, &mut self.spare);
+        self.at = at;
         self.stands = true;
         Ok(())
     }
@@ -96,9 +114,14 @@ impl<O: EntryOrder> BlockCursor<O> {
             self.stands = false;
             return Ok(());
         }
-        start_at(&mut self.spare, restart_before(restarts, body.len()));
-        walk_to(body, &mut self.spare, body.len())?;
-        mem::swap(&mut self.here, &mut self.spare);
+        walk_back(
+            body,
+            restarts,
+            &mut self.spare,
+            &mut self.passed,
+            body.len(),
+        )?;
+        self.at = take_back(&mut self.passed, self.spare.as_slice(), &mut self.key)?;
         self.stands = true;
         Ok(())
     }
@@ -112,12 +135,15 @@ impl<O: EntryOrder> BlockCursor<O> {
     {
         let block: &Block<O> = &self.block;
         let (body, restarts) = block.parts();
-        start_at(&mut self.spare, restart_below::<O>(body, restarts, target));
-        if !walk_to_not_below::<O>(body, &mut self.spare, target)? {
+        self.passed.clear();
+        self.spare.clear();
+        let mut at = begin_at(restart_below::<O>(body, restarts, target));
+        if !walk_to_not_below::<O>(body, &mut self.spare, &mut at, target)? {
             self.stands = false;
             return Ok(());
         }
-        mem::swap(&mut self.here, &mut self.spare);
+        mem::swap(&mut self.key, &mut self.spare);
+        self.at = at;
         self.stands = true;
         Ok(())
     }
@@ -131,11 +157,11 @@ impl<O: EntryOrder> BlockCursor<O> {
     {
         let block: &Block<O> = &self.block;
         let (body, _) = block.parts();
-        if self.here.next == body.len() {
+        if self.at.next == body.len() {
             self.stands = false;
             return Ok(());
         }
-        step(body, &mut self.here)?;
+        step(body, &mut self.key, &mut self.at)?;
         Ok(())
     }
 
@@ -146,15 +172,15 @@ impl<O: EntryOrder> BlockCursor<O> {
         ensures ok { OnOk result (self.new ≡ record self.old { place = option_and_then index_before self.old.place }) }
         ensures err { OnErr result (self.new ≡ self.old) }
     {
-        if self.here.start == 0 {
+        if self.at.start == 0 {
             self.stands = false;
             return Ok(());
         }
         let block: &Block<O> = &self.block;
         let (body, restarts) = block.parts();
-        start_at(&mut self.spare, restart_before(restarts, self.here.start));
-        walk_to(body, &mut self.spare, self.here.start)?;
-        mem::swap(&mut self.here, &mut self.spare);
+        let end = self.at.start;
+        reach_back(body, restarts, &mut self.spare, &mut self.passed, end)?;
+        self.at = take_back(&mut self.passed, self.spare.as_slice(), &mut self.key)?;
         Ok(())
     }
 
@@ -165,7 +191,7 @@ impl<O: EntryOrder> BlockCursor<O> {
     {
         let block: &Block<O> = &self.block;
         let (body, _) = block.parts();
-        let next = self.here.next;
+        let next = self.at.next;
         if next == body.len() {
             return false;
         }
@@ -177,7 +203,7 @@ impl<O: EntryOrder> BlockCursor<O> {
         requires { IsSome self.now.place }
         ensures { result ≡ is_some (option_and_then index_before self.now.place) }
     {
-        let start = self.here.start;
+        let start = self.at.start;
         if start == 0 {
             return false;
         }
@@ -196,7 +222,7 @@ impl<O: EntryOrder> BlockCursor<O> {
         requires { IsSome self.now.place }
         ensures { (index : ℕ) (pair : Pair) → self.now.place ≡ Some index → slice_get self.now.pairs index ≡ Some pair → result.now ≡ pair.key }
     {
-        self.here.key.as_slice()
+        self.key.as_slice()
     }
 
     /// Returns the value of that entry, a part of the block.
@@ -206,43 +232,34 @@ impl<O: EntryOrder> BlockCursor<O> {
     {
         let block: &Block<O> = &self.block;
         let (body, _) = block.parts();
-        &body[self.here.value..self.here.next]
+        &body[self.at.value..self.at.next]
     }
 }
 
-fn new_spot(alloc: Global) -> Spot {
-    Spot {
-        key: Vec::new(alloc),
-        start: 0,
-        value: 0,
-        next: 0,
+// Before the entry at this offset.
+fn begin_at(offset: usize) -> Extent
+    ensures { result.next ≡ offset }
+{
+    Extent {
+        start: offset,
+        value: offset,
+        next: offset,
     }
 }
 
-// Before the entry at this offset, with no key in front.
-fn start_at(spot: &mut Spot, offset: usize)
-    ensures key { spot.new.key.items ≡ [] }
-    ensures next { spot.new.next ≡ offset }
+// Reads the next entry: its key takes the place of the one before. An `Err` changes nothing.
+fn step(body: &[u8], key: &mut Vec<u8>, at: &mut Extent) -> Result<(), AllocError>
+    requires { IsReadable body.now key.old.items at.old.next }
+    ensures read { OnOk result (IsRead body.now key.old.items at.old.next key.new.items at.new.start at.new.value at.new.next) }
+    ensures key_stays { OnErr result (key.new.items ≡ key.old.items) }
+    ensures at_stays { OnErr result (at.new ≡ at.old) }
 {
-    spot.key.clear();
-    spot.next = offset;
-}
-
-// Reads the next entry. An `Err` changes nothing.
-fn step(body: &[u8], spot: &mut Spot) -> Result<(), AllocError>
-    requires { IsReadable body.now spot.old.key.items spot.old.next }
-    ensures read { OnOk result (IsRead body.now spot.old.key.items spot.old.next spot.new.key.items spot.new.start spot.new.value spot.new.next) }
-    ensures key_stays { OnErr result (spot.new.key.items ≡ spot.old.key.items) }
-    ensures start_stays { OnErr result (spot.new.start ≡ spot.old.start) }
-    ensures value_stays { OnErr result (spot.new.value ≡ spot.old.value) }
-    ensures next_stays { OnErr result (spot.new.next ≡ spot.old.next) }
-{
-    match entry_at(&body[spot.next..]) {
+    match entry_at(&body[at.next..]) {
         Some((entry, behind)) => {
-            put_behind(&mut spot.key, entry.shared, entry.rest)?;
-            spot.start = spot.next;
-            spot.next = body.len() - behind.len();
-            spot.value = spot.next - entry.value.len();
+            put_behind(key, entry.shared, entry.rest)?;
+            at.start = at.next;
+            at.next = body.len() - behind.len();
+            at.value = at.next - entry.value.len();
             Ok(())
         }
         None => unreachable!(),
@@ -262,31 +279,151 @@ fn put_behind(key: &mut Vec<u8>, shared: usize, rest: &[u8]) -> Result<(), Alloc
     key.extend_from_slice(rest)
 }
 
-// Reads entries up to the one that ends at this offset.
-fn walk_to(body: &[u8], spot: &mut Spot, end: usize) -> Result<(), AllocError>
-    requires { (index last : ℕ) × IsBefore body.now (pairs_of body.now) index spot.old.key.items spot.old.next × IsFront body.now (pairs_of body.now) (suc last) end × (spot.old.next < end) }
-    ensures { OnOk result ((last : ℕ) × IsFront body.now (pairs_of body.now) (suc last) end × IsSpot body.now (pairs_of body.now) last spot.new.key.items spot.new.start spot.new.value spot.new.next) }
+// Keeps entries of which the last ends at this offset: those that are kept, or those from the last
+// restart point before it on.
+fn reach_back(
+    body: &[u8],
+    restarts: &[u8],
+    keys: &mut Vec<u8>,
+    passed: &mut Vec<Passed>,
+    end: usize,
+) -> Result<(), AllocError>
+    requires restarts { HasRestarts body.now restarts.now }
+    requires place { (last : ℕ) × IsFront body.now (pairs_of body.now) (suc last) end }
+    requires kept { AreKept body.now keys.old.items passed.old.items }
+    ensures kept { AreKept body.now keys.new.items passed.new.items }
+    ensures ends { OnOk result (last_end passed.new.items ≡ Some end) }
 {
-    while spot.next < end {
-        step(body, spot)?;
+    if ends_at(passed.as_slice(), end) {
+        return Ok(());
+    }
+    walk_back(body, restarts, keys, passed, end)
+}
+
+// Whether the last of these entries ends at this offset.
+fn ends_at(passed: &[Passed], end: usize) -> bool
+    ensures { result ≡ true → last_end passed.now ≡ Some end }
+{
+    match passed.last() {
+        None => false,
+        Some(last) => last.at.next == end,
+    }
+}
+
+// Reads the entries from the last restart point before this offset up to it, and keeps them all.
+fn walk_back(
+    body: &[u8],
+    restarts: &[u8],
+    keys: &mut Vec<u8>,
+    passed: &mut Vec<Passed>,
+    end: usize,
+) -> Result<(), AllocError>
+    requires restarts { HasRestarts body.now restarts.now }
+    requires place { (last : ℕ) × IsFront body.now (pairs_of body.now) (suc last) end }
+    ensures kept { AreKept body.now keys.new.items passed.new.items }
+    ensures ends { OnOk result (last_end passed.new.items ≡ Some end) }
+{
+    passed.clear();
+    keys.clear();
+    let mut at = begin_at(restart_before(restarts, end));
+    let mut key = 0;
+    while at.next < end {
+        let key_end = keys.len();
+        step_beside(body, keys, key, &mut at)?;
+        key = key_end;
+        keep(passed, key, keys.len(), at)?;
     }
     Ok(())
+}
+
+// Keeps one more entry. An `Err` changes nothing.
+fn keep(passed: &mut Vec<Passed>, key: usize, key_end: usize, at: Extent) -> Result<(), AllocError>
+    ensures ok { OnOk result (passed.new.items ≡ passed.old.items ++ record { key = key; key_end = key_end; at = at } ∷ []) }
+    ensures err { OnErr result (passed.new.items ≡ passed.old.items) }
+{
+    passed.push(Passed { key, key_end, at })?;
+    Ok(())
+}
+
+// Reads the next entry, and appends its key to those before it, the last of which begins here. An
+// `Err` changes nothing.
+fn step_beside(
+    body: &[u8],
+    keys: &mut Vec<u8>,
+    last: usize,
+    at: &mut Extent,
+) -> Result<(), AllocError>
+    requires inside { last ≤ length keys.old.items }
+    requires readable { IsReadable body.now (drop last keys.old.items) at.old.next }
+    ensures read { OnOk result ((key : List ℕ) × (keys.new.items ≡ keys.old.items ++ key)
+        × IsRead body.now (drop last keys.old.items) at.old.next key at.new.start at.new.value at.new.next) }
+    ensures err { OnErr result (keys.new.items ≡ keys.old.items) }
+{
+    match entry_at(&body[at.next..]) {
+        Some((entry, behind)) => {
+            put_beside(keys, last, entry.shared, entry.rest)?;
+            at.start = at.next;
+            at.next = body.len() - behind.len();
+            at.value = at.next - entry.value.len();
+            Ok(())
+        }
+        None => unreachable!(),
+    }
+}
+
+// Appends the front of the key that begins here, and the rest of another. An `Err` changes nothing.
+fn put_beside(keys: &mut Vec<u8>, last: usize, shared: usize, rest: &[u8]) -> Result<(), AllocError>
+    requires { last + shared ≤ length keys.old.items }
+    ensures ok { OnOk result (keys.new.items ≡ keys.old.items ++ (take shared (drop last keys.old.items) ++ rest.now)) }
+    ensures err { OnErr result (keys.new.items ≡ keys.old.items) }
+{
+    // What comes after it can't fail.
+    keys.reserve(shared + rest.len())?;
+    keys.extend_from_within(last..last + shared)?;
+    keys.extend_from_slice(rest)
+}
+
+// Takes the last entry that is kept, and its key out of these. An `Err` leaves the key.
+fn take_back(passed: &mut Vec<Passed>, keys: &[u8], key: &mut Vec<u8>) -> Result<Extent, AllocError>
+    requires { (body : List ℕ) × (end : ℕ) × AreKept body keys.now passed.old.items × (last_end passed.old.items ≡ Some end) }
+    ensures taken { IfOk result (λ at. (body : List ℕ) (end : ℕ) → AreKept body keys.now passed.old.items → last_end passed.old.items ≡ Some end
+        → (index : ℕ) × IsSpot body (pairs_of body) index key.new.items at.start at.value at.next × (at.next ≡ end)) }
+    ensures others { (body : List ℕ) → AreKept body keys.now passed.old.items → AreKept body keys.now passed.new.items }
+    ensures err { OnErr result (key.new.items ≡ key.old.items) }
+{
+    let Some(last) = passed.pop() else {
+        unreachable!();
+    };
+    copy_key(key, &keys[last.key..last.key_end])?;
+    Ok(last.at)
+}
+
+// Makes a buffer the copy of a key. An `Err` leaves it.
+#[inline(always)]
+fn copy_key(buffer: &mut Vec<u8>, key: &[u8]) -> Result<(), AllocError>
+    ensures ok { OnOk result (buffer.new.items ≡ key.now) }
+    ensures err { OnErr result (buffer.new.items ≡ buffer.old.items) }
+{
+    buffer.reserve(key.len().saturating_sub(buffer.len()))?;
+    buffer.clear();
+    buffer.extend_from_slice(key)
 }
 
 // Reads entries up to the first whose key isn't below the target, and answers whether there is one.
 fn walk_to_not_below<O: EntryOrder>(
     body: &[u8],
-    spot: &mut Spot,
+    key: &mut Vec<u8>,
+    at: &mut Extent,
     target: &[u8],
 ) -> Result<bool, AllocError>
-    requires { (index : ℕ) × IsBefore body.now (pairs_of body.now) index spot.old.key.items spot.old.next × AreBelow O.below target.now (take index (pairs_of body.now)) }
+    requires { (index : ℕ) × IsBefore body.now (pairs_of body.now) index key.old.items at.old.next × AreBelow O.below target.now (take index (pairs_of body.now)) }
     ensures { IfOk result (λ found. MatchBool found
-        (IsFound O.below target.now body.now (pairs_of body.now) spot.new.key.items spot.new.start spot.new.value spot.new.next)
+        (IsFound O.below target.now body.now (pairs_of body.now) key.new.items at.new.start at.new.value at.new.next)
         (AreBelow O.below target.now (pairs_of body.now))) }
 {
-    while spot.next < body.len() {
-        step(body, spot)?;
-        if !O::is_below(&spot.key, target) {
+    while at.next < body.len() {
+        step(body, key, at)?;
+        if !O::is_below(key.as_slice(), target) {
             return Ok(true);
         }
     }

@@ -27,8 +27,8 @@ returns-clause-ok g c =
     let view : block.pairs ≡ c.args.self.now.pairs = ap (λ (v : Placed). v.pairs) c.self.view_is in
     let w = rw (c.parts.ensures.body, c.deref-block.ensures) at c.in_ok-walk_to_not_below.ensures in
     let rises : AreAbove below None (pairs_of block.body) = subst (AreAbove below None) pairs (rw c.deref-block.ensures at c.parts.ensures.rises) in
-    let new = c.walk_to_not_below.new.spot in
+    let new = c.walk_to_not_below.new.at in
     let found = MatchBool-at_true _ _ c.if-not-branch.false w in
-    let s = seeks_found below g.met.O.EntryOrder.transitive target block.body (pairs_of block.body) new.key.items new.start new.value new.next rises found in
+    let s = seeks_found below g.met.O.EntryOrder.transitive target block.body (pairs_of block.body) c.walk_to_not_below.new.key.items new.start new.value new.next rises found in
     let place = Some (length (pairs_of (take new.start block.body))) in
-    rw c.swap.ensures.x_after (subst (λ (ps : List Pair). (index : ℕ) × IsFirstNotBelow below target ps index × (place ≡ within ps index)) (sym pairs ∙ view) (s.index, s.first, s.place_is))
+    subst (λ (ps : List Pair). (index : ℕ) × IsFirstNotBelow below target ps index × (place ≡ within ps index)) (sym pairs ∙ view) (s.index, s.first, s.place_is)

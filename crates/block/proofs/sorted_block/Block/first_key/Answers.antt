@@ -1,6 +1,5 @@
-use Rattle.std.proofs.Common.{◌≡◌, ◌++◌, List, ℕ, [], sym, subst, ◌∙◌}
+use Rattle.std.proofs.Common.{List, sym, subst, ◌∙◌}
 use Rattle.ikey.specs.Entries.{Pair}
-use Rattle.block.specs.Block.{IsEntry}
 use Rattle.block.specs.Bounds.{IsFirstKey}
 use Rattle.block.specs.Reading.{pairs_of}
 use Rattle.block.proofs.Between.{first_of_body, none_in_body}

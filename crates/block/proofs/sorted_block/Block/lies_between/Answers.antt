@@ -1,5 +1,5 @@
 use Rattle.std.proofs.Common.{option_copied}
-use Rattle.block.proofs.Between.{between_none, ends_tell, first_not}
+use Rattle.block.proofs.Between.{ends_tell}
 use Rattle.block.proofs.sorted_block.Block.lies_between.Goals as goal
 
 pub returns : goal.returns
