@@ -1,6 +1,6 @@
 //! Work until there is none, and as much as keeps up with what is written.
 
-ghost use Rattle.std.specs.Prelude.{◌≡◌, None, Some, length, nat_lt, if◌then◌else◌, IfErr, MatchBool, MatchResult, Ok, OnOk};
+ghost use Rattle.std.specs.Prelude.{◌≡◌, None, Some, length, nat_lt, if◌then◌else◌, MatchBool, MatchResult, OnOk};
 ghost use Rattle.ikey.specs.Orders.{order_of};
 
 use crate::db::Db;
@@ -40,13 +40,13 @@ pub enum Pace {
 
 impl<S: Store, K: KeyOrder> Db<S, K> {
     ghost use Rattle.engine.specs.Losses.{DbLoses, DbLosesWrite};
-    ghost use Rattle.engine.specs.Outcomes.{MayRefuseWork, MayRefuseWrite};
     ghost use Rattle.engine.specs.Reopening.{DbKeepsFound};
     ghost use Rattle.engine.specs.Pace.{HasKeptUp, OnlyDraws, OnlyWorks, WorksAtPace, WritesAtPace};
+    ghost use Rattle.engine.specs.Pacing.{CanNotWait, CanWait, CatchesUp, EndsGroup, IsBehind, WorksOff, WritesAndWorks, share_for};
     ghost use Rattle.engine.specs.StandsDb.{FollowsDb, KeepsOpening, db_ids_of, db_options_of, open_by};
     ghost use Rattle.engine.specs.Stops.{DbStops, DbStopsWrite};
     ghost use Rattle.engine.specs.Working.{HasNoWork};
-    ghost use Rattle.engine.specs.declared.pace.Pace.TheVariants.{KeepsUp, Refused};
+    ghost use Rattle.engine.specs.declared.pace.Pace.TheVariants.{KeepsUp};
     ghost use Rattle.versions.specs.Levels.{tables_at};
 
     /// Works until nothing is left to do, by pieces of so many entries. Then no compaction is under
@@ -57,7 +57,8 @@ impl<S: Store, K: KeyOrder> Db<S, K> {
             (λ m n. MatchResult result (λ done. OnlyDraws m n) (λ e. OnlyWorks m n)) }
         // Over any store:
         ensures settled { OnOk result (HasNoWork (db_options_of self.new) (open_by self.new)) }
-        ensures allowed { MatchResult result (λ done. Unit {0}) MayRefuseWork }
+        // It is calls of `work`, each with this budget.
+        ensures does { WorksOff (order_of K.name K.cmp) S.facts budget self.old self.new result }
         ensures ids { db_ids_of self.new ≡ db_ids_of self.old }
         ensures opening { KeepsOpening self.old self.new }
         // A process crash in its middle leaves what was written, and a power loss a prefix of it.
@@ -98,8 +99,9 @@ impl<S: Store, K: KeyOrder> Db<S, K> {
         ensures step { FollowsDb (order_of K.name K.cmp) S.facts self.old self.new (λ m n. WritesAtPace m batch.now sync result n) }
         // Over any store:
         ensures kept { result ≡ Ok KeepsUp → HasKeptUp (db_options_of self.new) (open_by self.new) }
-        ensures allowed { IfErr result MayRefuseWrite }
-        ensures refused { (error : DbError) → result ≡ Ok (Refused error) → MayRefuseWork error }
+        // It is a call of `write`. Where a group ends, or work has fallen behind, calls of `work`
+        // with its share follow.
+        ensures does { WritesAndWorks (order_of K.name K.cmp) S.facts batch.now sync self.old self.new result }
         ensures ids { db_ids_of self.new ≡ db_ids_of self.old }
         ensures opening { KeepsOpening self.old self.new }
         // After a process crash in its middle the files hold what was written, with the batch as a
@@ -108,13 +110,13 @@ impl<S: Store, K: KeyOrder> Db<S, K> {
         ensures loses { DbLosesWrite (order_of K.name K.cmp) S.facts batch.now self.old self.new }
         ensures found { DbKeepsFound (order_of K.name K.cmp) S.facts self.old self.new }
     {
-        let before = self.source.memory.size() as u64;
+        let last = self.source.memory.last();
+        let size = self.source.memory.size();
         self.write(alloc, batch, sync)?;
-        let operations = batch.ops().len();
-        if !self.ends_a_group(operations, before) && self.has_kept_up() {
+        if self.can_wait(last, size) {
             return Ok(Pace::KeepsUp);
         }
-        let share = self.share_of(operations);
+        let share = self.share_of(batch.ops().len());
         Ok(self.keep_up(alloc, share))
     }
 
@@ -126,7 +128,8 @@ impl<S: Store, K: KeyOrder> Db<S, K> {
         // Over any store:
         ensures kept { result ≡ KeepsUp → HasKeptUp (db_options_of self.new) (open_by self.new) }
         ensures flushed { result ≡ KeepsUp → (open_by self.new).memory.sealed ≡ None }
-        ensures refused { (error : DbError) → result ≡ Refused error → MayRefuseWork error }
+        // It is calls of `work`, each with this budget, and none more than it needs.
+        ensures does { CatchesUp (order_of K.name K.cmp) S.facts budget self.old self.new result }
         ensures ids { db_ids_of self.new ≡ db_ids_of self.old }
         ensures opening { KeepsOpening self.old self.new }
         ensures stops { DbStops (order_of K.name K.cmp) S.facts self.old self.new }
@@ -148,7 +151,8 @@ impl<S: Store, K: KeyOrder> Db<S, K> {
 
     // Whether it has kept up, and no memtable waits for its table.
     fn can_rest(&self) -> bool
-        ensures { MatchBool result (HasKeptUp (db_options_of self.now) (open_by self.now) × ((open_by self.now).memory.sealed ≡ None)) (Unit {0}) }
+        ensures { MatchBool result (HasKeptUp (db_options_of self.now) (open_by self.now) × ((open_by self.now).memory.sealed ≡ None))
+            (IsBehind (db_options_of self.now) (open_by self.now)) }
     {
         if self.source.memory.sealed_generation().is_some() {
             return false;
@@ -165,21 +169,38 @@ impl<S: Store, K: KeyOrder> Db<S, K> {
         self.state.version.level(0).len() as u64 <= 3 * self.options.level0_files()
     }
 
-    // Whether a group ends among the operations that were written last, so many. Before them the
-    // memtable had so many bytes.
-    fn ends_a_group(&self, operations: usize, before: u64) -> bool {
-        let last = self.source.memory.last();
+    // Whether a batch that was written brings no work along. Before it the last sequence number was
+    // this one, and the memtable had so many bytes.
+    fn can_wait(&self, last: u64, size: usize) -> bool
+        ensures { MatchBool result (CanWait (db_options_of self.now) last size (open_by self.now))
+            (CanNotWait (db_options_of self.now) last size (open_by self.now)) }
+    {
+        if self.ends_a_group(last, size) {
+            return false;
+        }
+        self.has_kept_up()
+    }
+
+    // Whether a group has ended since.
+    fn ends_a_group(&self, last: u64, size: usize) -> bool
+        ensures { MatchBool result (EndsGroup (db_options_of self.now) last size (open_by self.now))
+            (EndsGroup (db_options_of self.now) last size (open_by self.now) → ⊥) }
+    {
+        if last / GROUP != self.source.memory.last() / GROUP {
+            return true;
+        }
         let part = (self.options.write_buffer() / PARTS).max(1);
-        last.saturating_sub(operations as u64) / GROUP != last / GROUP
-            || before / part != self.source.memory.size() as u64 / part
+        size as u64 / part != self.source.memory.size() as u64 / part
     }
 
     // How many entries of work so many operations add, and at least a group.
-    fn share_of(&self, operations: usize) -> u32 {
+    fn share_of(&self, operations: usize) -> u32
+        ensures { result ≡ share_for (db_options_of self.now) (open_by self.now) operations }
+    {
         let counted = operations.clamp(GROUP as usize, MOST_OPERATIONS) as u32;
-        if self.state.version.level(0).len() as u64 >= 2 * self.options.level0_files() {
-            return LARGE_SHARE * counted;
+        if (self.state.version.level(0).len() as u64) < 2 * self.options.level0_files() {
+            return SHARE * counted;
         }
-        SHARE * counted
+        LARGE_SHARE * counted
     }
 }

@@ -1,17 +1,22 @@
 use Rattle.ikey.specs.Orders.{order_of}
-use Rattle.std.proofs.Common.{◌∙◌, refl}
+use Rattle.std.proofs.Common.{◌∙◌, refl, arith}
+use Rattle.std.specs.Prelude.{Ok, Err}
 use Rattle.engine.proofs.LosingDb.{db_found_none, db_found_then, db_loses_none, db_loses_then}
+use Rattle.engine.specs.declared.work.Progress.TheVariants.{Idle}
+use Rattle.engine.proofs.PaceRuns.{call_of, works_forever, works_last_as, works_more, works_refused}
 use Rattle.engine.proofs.PaceSteps.{draws_none, draws_then, idle_only, refusal_only, worked_only, works_then}
 use Rattle.engine.proofs.RangeLeads.{leads_as, leads_stay, leads_then}
 use Rattle.engine.proofs.StopSteps.{db_stops_none, db_stops_then}
 use Rattle.engine.proofs.db.Db.settle.Goals as goal
 
 pub loop-init : goal.loop-init
-loop-init g c = record { steps = leads_stay draws_none; stops = db_stops_none (order_of g.K.KeyOrder.name g.K.KeyOrder.cmp) g.S.Store.facts c.args.self.now; loses = db_loses_none (order_of g.K.KeyOrder.name g.K.KeyOrder.cmp) g.S.Store.facts c.args.self.now; found = db_found_none (order_of g.K.KeyOrder.name g.K.KeyOrder.cmp) g.S.Store.facts c.args.self.now; ids = refl; opening = record { options = refl; failures = refl } }
+loop-init g c = record { steps = leads_stay draws_none; went_on = refl; stops = db_stops_none (order_of g.K.KeyOrder.name g.K.KeyOrder.cmp) g.S.Store.facts c.args.self.now; loses = db_loses_none (order_of g.K.KeyOrder.name g.K.KeyOrder.cmp) g.S.Store.facts c.args.self.now; found = db_found_none (order_of g.K.KeyOrder.name g.K.KeyOrder.cmp) g.S.Store.facts c.args.self.now; ids = refl; opening = record { options = refl; failures = refl } }
 
 pub loop-preserved : goal.loop-preserved
 loop-preserved g c = record {
   steps = leads_then (λ m n o h k. draws_then m n o h (worked_only n o c.args.budget k)) c.loop.invariant.steps (rw c.in-Ok-Worked.field-0-is at c.in-Ok-Worked.ensures.step);
+  went_on = works_more (order_of g.K.KeyOrder.name g.K.KeyOrder.cmp) g.S.Store.facts (λ db. Unit {0}) c.args.budget c.loop.counter c.args.self.now c.loop.self c.work.new.self c.loop.invariant.went_on c.in-Ok-Worked.field-0 c.in-Ok-Worked.field-0-is
+      (call_of (order_of g.K.KeyOrder.name g.K.KeyOrder.cmp) g.S.Store.facts c.args.budget c.loop.self c.work.new.self (Ok c.in-Ok-Worked.field-0) c.in-Ok-Worked.ensures.step c.in-Ok-Worked.ensures.outcome c.in-Ok-Worked.ensures.caused c.in-Ok-Worked.ensures.does c.in-Ok-Worked.ensures.within c.in-Ok-Worked.ensures.flushes c.in-Ok-Worked.ensures.tidy c.in-Ok-Worked.ensures.removes c.in-Ok-Worked.ensures.exact c.in-Ok-Worked.ensures.dropped) tt;
   stops = db_stops_then (order_of g.K.KeyOrder.name g.K.KeyOrder.cmp) g.S.Store.facts c.args.self.now c.loop.self c.work.new.self c.loop.invariant.steps c.work.ensures.step.faithful c.loop.invariant.stops c.work.ensures.stops;
   loses = db_loses_then (order_of g.K.KeyOrder.name g.K.KeyOrder.cmp) g.S.Store.facts c.args.self.now c.loop.self c.work.new.self c.work.ensures.step.faithful c.loop.invariant.found c.loop.invariant.steps c.work.ensures.stops c.loop.invariant.loses c.work.ensures.loses;
   found = db_found_then (order_of g.K.KeyOrder.name g.K.KeyOrder.cmp) g.S.Store.facts c.args.self.now c.loop.self c.work.new.self c.work.ensures.step.faithful c.loop.invariant.found c.loop.invariant.steps c.work.ensures.found;
@@ -30,6 +35,23 @@ returns-in-Err-clause-step g c = leads_then (λ m n o h k. works_then m n o h.0 
 
 pub returns-clause-step : goal.returns-clause-step
 returns-clause-step g c = leads_as (λ m n h. h.0) c.loop.invariant.steps
+
+-- ---- which calls of work it is
+
+pub returns-in-Ok-Idle-clause-does : goal.returns-in-Ok-Idle-clause-does
+returns-in-Ok-Idle-clause-does g c =
+    works_last_as (order_of g.K.KeyOrder.name g.K.KeyOrder.cmp) g.S.Store.facts (λ db. Unit {0}) c.args.budget c.loop.counter c.args.self.now c.loop.self c.work.new.self c.loop.invariant.went_on c.in-Ok-Idle.field-0 Idle c.in-Ok-Idle.field-0-is
+    (call_of (order_of g.K.KeyOrder.name g.K.KeyOrder.cmp) g.S.Store.facts c.args.budget c.loop.self c.work.new.self (Ok c.in-Ok-Idle.field-0) c.in-Ok-Idle.ensures.step c.in-Ok-Idle.ensures.outcome c.in-Ok-Idle.ensures.caused c.in-Ok-Idle.ensures.does c.in-Ok-Idle.ensures.within c.in-Ok-Idle.ensures.flushes c.in-Ok-Idle.ensures.tidy c.in-Ok-Idle.ensures.removes c.in-Ok-Idle.ensures.exact c.in-Ok-Idle.ensures.dropped)
+
+pub returns-in-Err-clause-does : goal.returns-in-Err-clause-does
+returns-in-Err-clause-does g c =
+    works_refused (order_of g.K.KeyOrder.name g.K.KeyOrder.cmp) g.S.Store.facts (λ db. Unit {0}) c.args.budget c.loop.counter c.args.self.now c.loop.self c.work.new.self c.loop.invariant.went_on c.in-Err.error
+    (call_of (order_of g.K.KeyOrder.name g.K.KeyOrder.cmp) g.S.Store.facts c.args.budget c.loop.self c.work.new.self (Err c.in-Err.error) c.in-Err.ensures.step c.in-Err.ensures.outcome c.in-Err.ensures.caused c.in-Err.ensures.does c.in-Err.ensures.within c.in-Err.ensures.flushes c.in-Err.ensures.tidy c.in-Err.ensures.removes c.in-Err.ensures.exact c.in-Err.ensures.dropped)
+
+pub returns-clause-does : goal.returns-clause-does
+returns-clause-does g c =
+    works_forever (order_of g.K.KeyOrder.name g.K.KeyOrder.cmp) g.S.Store.facts (λ db. Unit {0}) c.args.budget c.loop.counter c.args.self.now c.loop.self c.loop.invariant.went_on
+    (omega (arith, c.loop-test.false, c.loop.auto.counter-end))
 
 -- ---- what a process crash leaves
 

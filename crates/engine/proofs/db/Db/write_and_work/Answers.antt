@@ -1,11 +1,13 @@
-use Rattle.std.proofs.Common.{◌≡◌, ◌∙◌, Result, Err, subst, sym, rules}
+use Rattle.std.proofs.Common.{◌≡◌, ◌∙◌, Result, Ok, Err, ap, length, subst, sym, rules}
 use Rattle.coding.specs.declared.error.DbError.{DbError}
 use Rattle.ikey.specs.Orders.{order_of}
 use Rattle.engine.specs.Pace.{WritesAtPace}
+use Rattle.engine.specs.Pacing.{WritesAndWorks}
 use Rattle.engine.specs.StandsDb.{FollowsDb}
 use Rattle.engine.specs.declared.pace.Pace.{Pace}
 use Rattle.engine.proofs.Flags.{writes_flag}
 use Rattle.engine.proofs.LosingDb.{db_found_written, db_loses_written}
+use Rattle.engine.proofs.PaceRuns.{brings, waits, write_of}
 use Rattle.engine.proofs.PaceSteps.{draws_none}
 use Rattle.machine.specs.declared.command.Answer.TheVariants.{Done}
 use Rattle.engine.proofs.RangeLeads.{leads_as, leads_then}
@@ -23,8 +25,8 @@ returns-in_err-write-clause-step g c =
     subst (λ (result : Result Pace DbError). FollowsDb order g.S.Store.facts c.args.self.now c.write.new.self (λ m n. WritesAtPace m c.args.batch.now c.args.sync result n)) (sym is)
     (leads_as (λ m n h. h) c.in_err-write.ensures.step)
 
-pub returns-then-has_kept_up-clause-step : goal.returns-then-has_kept_up-clause-step
-returns-then-has_kept_up-clause-step g c = leads_as (λ m n h. (n, h, draws_none n)) c.in_ok-write.ensures.step
+pub returns-then-can_wait-clause-step : goal.returns-then-can_wait-clause-step
+returns-then-can_wait-clause-step g c = leads_as (λ m n h. (n, h, draws_none n)) c.in_ok-write.ensures.step
 
 pub returns-clause-step : goal.returns-clause-step
 returns-clause-step g c = leads_then (λ m n o h k. (n, h, k)) c.in_ok-write.ensures.step c.keep_up.ensures.step
@@ -50,9 +52,32 @@ returns-clause-loses g c =
 pub returns-in_err-write-clause-found : goal.returns-in_err-write-clause-found
 returns-in_err-write-clause-found g c = c.write.ensures.found
 
-pub returns-then-has_kept_up-clause-found : goal.returns-then-has_kept_up-clause-found
-returns-then-has_kept_up-clause-found g c = c.write.ensures.found
+pub returns-then-can_wait-clause-found : goal.returns-then-can_wait-clause-found
+returns-then-can_wait-clause-found g c = c.write.ensures.found
 
 pub returns-clause-found : goal.returns-clause-found
 returns-clause-found g c =
     db_found_written (order_of g.K.KeyOrder.name g.K.KeyOrder.cmp) g.S.Store.facts c.args.self.now c.write.new.self c.keep_up.new.self c.keep_up.ensures.step.faithful c.write.ensures.found c.args.batch.now c.args.sync c.in_ok-write.ensures.step c.keep_up.ensures.found
+
+-- ---- which calls it is
+
+pub returns-in_err-write-clause-does : goal.returns-in_err-write-clause-does
+returns-in_err-write-clause-does g c =
+    let is : c.from_residual.result ≡ Err c.in_err-write.field-0.0 = search rules in
+    subst (λ (result : Result Pace DbError). WritesAndWorks (order_of g.K.KeyOrder.name g.K.KeyOrder.cmp) g.S.Store.facts c.args.batch.now c.args.sync c.args.self.now c.write.new.self result) (sym is)
+    (write_of (order_of g.K.KeyOrder.name g.K.KeyOrder.cmp) g.S.Store.facts c.args.batch.now c.args.sync c.args.self.now c.write.new.self (Err c.in_err-write.field-0.0) c.in_err-write.ensures.step c.in_err-write.ensures.outcome c.in_err-write.ensures.caused c.in_err-write.ensures.empty c.in_err-write.ensures.syncs)
+
+pub returns-then-can_wait-clause-does : goal.returns-then-can_wait-clause-does
+returns-then-can_wait-clause-does g c = (
+  c.write.new.self,
+  (write_of (order_of g.K.KeyOrder.name g.K.KeyOrder.cmp) g.S.Store.facts c.args.batch.now c.args.sync c.args.self.now c.write.new.self (Ok tt) c.in_ok-write.ensures.step c.in_ok-write.ensures.outcome c.in_ok-write.ensures.caused c.in_ok-write.ensures.empty c.in_ok-write.ensures.syncs),
+  waits (order_of g.K.KeyOrder.name g.K.KeyOrder.cmp) g.S.Store.facts (length c.args.batch.now) c.args.self.now c.write.new.self c.last-last.result c.size-size.result c.last-last.ensures.is c.size-size.ensures c.if-can_wait.ensures,
+)
+
+pub returns-clause-does : goal.returns-clause-does
+returns-clause-does g c = (
+  c.write.new.self,
+  (write_of (order_of g.K.KeyOrder.name g.K.KeyOrder.cmp) g.S.Store.facts c.args.batch.now c.args.sync c.args.self.now c.write.new.self (Ok tt) c.in_ok-write.ensures.step c.in_ok-write.ensures.outcome c.in_ok-write.ensures.caused c.in_ok-write.ensures.empty c.in_ok-write.ensures.syncs),
+  brings (order_of g.K.KeyOrder.name g.K.KeyOrder.cmp) g.S.Store.facts (length c.args.batch.now) c.args.self.now c.write.new.self c.last-last.result c.size-size.result c.last-last.ensures.is c.size-size.ensures
+      c.keep_up.new.self c.keep_up.result (length c.ops.result.now) c.share_of-share.result c.if-can_wait.ensures (ap length c.ops.ensures) c.share_of-share.ensures c.keep_up.ensures.does,
+)
