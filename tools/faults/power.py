@@ -2,7 +2,7 @@
 default options in a loop device, whose image is copied while databases are written. It needs root,
 a loop device, and the programs that make such file systems (Debian's xfsprogs and btrfs-progs).
 
-    python3 tools/faults/power.py [NAME..]    over build/ldbtool, or LDBTOOL=FILE; NAME is ext4, xfs or btrfs
+    python3 tools/faults/power.py [NAME..]    ext4, xfs, btrfs; over build/ldbtool, or LDBTOOL=FILE
 
 On ext4 the kernel gives each file's size to the journal five seconds after an append, and the bytes
 later, so copies are of some twenty moments. In each the directories are mended by `ldbtool mend`
