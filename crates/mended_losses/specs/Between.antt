@@ -51,7 +51,7 @@ pub record IsTableSafe (facts : Facts) (lost : Files) (number : ℕ) : Type 0 wh
       × (get facts.files (name_of (Table number)) ≡ None → IsWhole facts (name_of (OldTable number))))
       ⊎ (table_at lost number ≡ table_at facts.files number)
 
--- So it is with all that a directory of these parts reads.
+-- The same holds for all that a directory of these parts reads.
 pub record IsHeldOpen (facts : Facts) (lost : Files) (d : Directory) : Type 0 where
   pub fronts : SyncsFronts (behind_sync [] facts.calls) (disk_of facts)
   pub current : StaysWhole facts (name_of Current)

@@ -11,7 +11,8 @@ use Rattle.mending.specs.Plans.{HasNoFront, IsMine, IsPlain}
 use Rattle.mending.specs.declared.ends.Ends.{Ends}
 use Rattle.mending.specs.declared.ends.Ends.TheVariants.{Zeros}
 use Rattle.mended_losses.specs.Losses.{HoledLost, IsHoledLost, IsMoment, IsZeroedLost}
-use Rattle.mended_losses.specs.Reading.{AreNamed, HasFile, HoldsLogs, LeavesWritten, ReadsAs, ReadsSame, WasLog, WasWritten}
+use Rattle.mended_losses.specs.Reading.{AreNamed, HasFile, HoldsLogs, LeavesWritten, ReadsAs, ReadsSame}
+use Rattle.mended_losses.specs.Reading.{WasLog, WasWritten}
 
 -- A loss without zeros is one of those that may leave some.
 abbrev pub PlainLossLaw : Type 0
