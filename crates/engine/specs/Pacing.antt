@@ -35,8 +35,8 @@ pub record CallsWork {S K : Type 0} {g : _} (order : Order) (facts : S → Facts
   pub step : FollowsDb order facts old new (λ m n. Works m budget (work_answer result) n)
   pub outcome : DbOutcomeOf MayRefuseWork facts old new result
   pub caused : DbCaused not_serving old new result
-  pub done : DoneWork order (db_options_of old) budget (seen_by facts old) (seen_by facts new) (open_by old) (open_by new)
-      result
+  pub done : DoneWork order (db_options_of old) budget (seen_by facts old) (seen_by facts new) (open_by old)
+      (open_by new) result
 
 -- So many calls of work with this budget, one after the other. Each did a piece, and what it left
 -- goes on.
@@ -132,7 +132,8 @@ BringsWork order facts count old written new pace =
     (CanWait (db_options_of written) (open_by old).memory.last (size_of (open_by old).memory.current.inserts)
     (open_by written) × (pace ≡ KeepsUp) × (new ≡ written))
     ⊎ (CanNotWait (db_options_of written) (open_by old).memory.last (size_of (open_by old).memory.current.inserts)
-    (open_by written) × CatchesUp order facts (share_for (db_options_of written) (open_by written) count) written new pace)
+    (open_by written)
+    × CatchesUp order facts (share_for (db_options_of written) (open_by written) count) written new pace)
 
 -- A call of write, and the work that it brings along.
 abbrev pub WritesAndWorks : {S K : Type 0} {g : _} → Order → (S → Facts) → List Operation → Bool
