@@ -8,6 +8,7 @@ On ext4 the kernel gives each file's size to the journal five seconds after an a
 later, so copies are of some twenty moments. In each the directories are mended by `ldbtool mend`
 where a check refuses them, and hold what was synced then.
 """
+import functools
 import os
 import random
 import shutil
@@ -235,17 +236,22 @@ def written(image, room, place):
     return copies, [it.fault for it in writers.values() if it.fault]
 
 
-def tried(names, say):
-    """Tries it on each of these, and returns how many of them passed and failed."""
+def losses_on(names):
+    """Returns a check of each of these file systems, with what it tries."""
+    return [(f"power loss on {name}", functools.partial(lost_power, name)) for name in names]
+
+
+def tried(checks, say):
+    """Runs these checks, and returns how many of them passed and failed."""
     passed = failed = 0
-    for name in names:
+    for what, check in checks:
         try:
-            say(lost_power(name))
+            say(check())
             passed += 1
         except Unable as why:
-            say(f"no power loss on {name} is tried: {why}")
+            say(f"no {what} is tried: {why}")
         except Wrong as fault:
-            say(f"WRONG  power losses on {name}: {fault}")
+            say(f"WRONG  a {what}: {fault}")
             failed += 1
     return passed, failed
 
@@ -255,7 +261,7 @@ def main(names):
         return refuse(__doc__)
     if missing():
         return refuse(f"power: {missing()}")
-    passed, failed = tried(names or SYSTEMS, lambda line: print(line, flush=True))
+    passed, failed = tried(losses_on(names or SYSTEMS), lambda line: print(line, flush=True))
     print(f"{passed} passed, {failed} failed")
     return 1 if failed else 0
 
