@@ -297,10 +297,7 @@ const LONG_LOG: usize = 600_000;
 
 // A temporary file marks the others of its number. A sync of one that isn't there marks nothing.
 const MARKED: &[Row] = &[
-    (
-        Step::Names("000003.dbtmp;000003.log;000004.log;"),
-        Ok(true),
-    ),
+    (Step::Names("000003.dbtmp;000003.log;000004.log;"), Ok(true)),
     (Step::Sync("000003.log"), Ok(true)),
     (Step::Sync("000004.log"), Ok(true)),
     (Step::Sync("000005.log"), Err(StoreError::Device)),
