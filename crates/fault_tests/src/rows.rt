@@ -39,9 +39,9 @@ const EAGER: Sizes = Sizes {
     base_bytes: 10_485_760,
 };
 
-// The calls of an open of nothing: lock, list, the new MANIFEST (create, append, sync), the
-// temporary file (the same), rename, the new log, list. Those of a flush: list, the table (create,
-// append twice, sync), the edit (append, sync).
+// The twelve calls of an open of nothing: lock, list, the new MANIFEST (create, append, sync), the
+// temporary file (the same), rename, the sync after it, the new log, list. Those of a flush: list,
+// the table (create, append twice, sync), the edit (append, sync).
 const ROWS: &[Row] = &[
     Row {
         sizes: DEFAULTS,
