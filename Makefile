@@ -40,12 +40,14 @@ make test       Everything: each proof from nothing, each test, the bugs that th
                 to two hours. make test FULL=1 tries the bugs of all crates, and proves all tests.
 make build      Proves the programs, and puts them into build/: an hour or more from nothing.
 make install    Puts ldbtool, its manual page, completion for bash and zsh, documents and licences
-                below PREFIX (/usr/local), which lies in DESTDIR (none).
+                below PREFIX (/usr/local), which lies in DESTDIR (none); the C library, too, if it
+                was built.
 make uninstall  Removes them.
 make lib        Proves the C library, and puts it into build/. make lib-unproved makes it without a
                 proof, into build/unproved. make lib-check tries it, in C, Rust and Python: a minute.
 make lib-install    Puts it below PREFIX, with its pkg-config file. make lib-uninstall removes it.
-make deb        Makes a Debian package of the same in build/. It needs dpkg-dev and binutils.
+make deb        Makes Debian packages of the same in build/: ldbtool, and libwachuspi-dev if the
+                library was built. It needs dpkg-dev and binutils.
 make program    Checks ldbtool as users run it: scripts, pipes, wrong folders, examples. A minute.
 make stops      Rebuilds the states after crashes and power losses, and opens each. Under a minute.
 make soak       Drawn sessions of ldbtool beside a plain model, half of them killed; states after
@@ -89,8 +91,9 @@ install: $(LDBTOOL)
 	  install -D -m 644 "$${it%%:*}" '$(BELOW)'/"$${it#*:}" && \
 	    echo 'installed $(BELOW)'/"$${it#*:}" || exit 1; \
 	done
+	if [ -e '$(LIBRARY)/libwachuspi.a' ]; then $(MAKE) --no-print-directory lib-install; fi
 
-uninstall:
+uninstall: lib-uninstall
 	for file in bin/ldbtool $(foreach it,$(FILES),$(lastword $(subst :, ,$(it)))); do \
 	  file='$(BELOW)'/"$$file"; \
 	  if [ -e "$$file" ]; then \
@@ -102,7 +105,7 @@ uninstall:
 	if [ -d '$(BELOW)/$(DOC)' ]; then rmdir --ignore-fail-on-non-empty '$(BELOW)/$(DOC)'; fi
 
 deb: $(LDBTOOL)
-	tools/deb '$(LDBTOOL)' '$(or $(DEB),build)'
+	tools/deb '$(LDBTOOL)' '$(or $(DEB),build)' '$(LIBRARY)'
 
 program: build/ldbtool
 	tools/checks/program build/ldbtool

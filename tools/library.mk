@@ -1,7 +1,17 @@
 # The C library, and what goes over it (docs/LIBRARY.md). The Makefile includes this file.
 
-LIBRARY := build/libwachuspi.a
+# Where it was built, and where it goes below PREFIX. `make install` takes it along if it is there.
+LIBRARY ?= build
+LIBDIR ?= lib
 LIBRARY_VERSION := 0.1.0
+
+# FILE:PLACE, the place below PREFIX.
+LIBRARY_FILES = \
+  $(LIBRARY)/libwachuspi.a:$(LIBDIR)/libwachuspi.a \
+  $(LIBRARY)/libwachuspi.so.1:$(LIBDIR)/libwachuspi.so.1 \
+  include/wachuspi.h:include/wachuspi.h
+LIBRARY_PLACES = $(foreach it,$(LIBRARY_FILES),$(lastword $(subst :, ,$(it)))) \
+  $(LIBDIR)/libwachuspi.so $(LIBDIR)/pkgconfig/wachuspi.pc
 
 .PHONY: lib lib-unproved lib-check lib-install lib-uninstall
 
@@ -16,22 +26,25 @@ lib-unproved: needs-rt
 
 # Tries the library: C under valgrind, Rust, Python, and by turns with LevelDB.
 lib-check: needs-rt
-	if [ ! -e $(LIBRARY) ]; then tools/library unproved && tools/library check unproved; \
+	if [ ! -e build/libwachuspi.a ]; then tools/library unproved && tools/library check unproved; \
 	  else tools/library check; fi
 
-$(LIBRARY):
+build/libwachuspi.a:
 	$(MAKE) --no-print-directory lib
 
-lib-install: $(LIBRARY)
-	install -D -m 644 build/libwachuspi.a '$(BELOW)/lib/libwachuspi.a'
-	install -D -m 755 build/libwachuspi.so.1 '$(BELOW)/lib/libwachuspi.so.1'
-	ln -sf libwachuspi.so.1 '$(BELOW)/lib/libwachuspi.so'
-	install -D -m 644 include/wachuspi.h '$(BELOW)/include/wachuspi.h'
-	mkdir -p '$(BELOW)/lib/pkgconfig'
-	sed -e 's|@PREFIX@|$(PREFIX)|' -e 's|@VERSION@|$(LIBRARY_VERSION)|' packaging/wachuspi.pc.in \
-	  > '$(BELOW)/lib/pkgconfig/wachuspi.pc'
-	echo 'installed libwachuspi and wachuspi.h below $(BELOW)'
+lib-install: $(LIBRARY)/libwachuspi.a
+	for it in $(LIBRARY_FILES); do \
+	  install -D -m 644 "$${it%%:*}" '$(BELOW)'/"$${it#*:}" || exit 1; \
+	done
+	ln -sf libwachuspi.so.1 '$(BELOW)/$(LIBDIR)/libwachuspi.so'
+	mkdir -p '$(BELOW)/$(LIBDIR)/pkgconfig'
+	sed -e 's|@PREFIX@|$(PREFIX)|' -e 's|@LIBDIR@|$(LIBDIR)|' -e 's|@VERSION@|$(LIBRARY_VERSION)|' \
+	  packaging/wachuspi.pc.in > '$(BELOW)/$(LIBDIR)/pkgconfig/wachuspi.pc'
+	for it in $(LIBRARY_PLACES); do echo 'installed $(BELOW)'/"$$it"; done
 
 lib-uninstall:
-	rm -f $(foreach it,lib/libwachuspi.a lib/libwachuspi.so lib/libwachuspi.so.1 \
-	  lib/pkgconfig/wachuspi.pc include/wachuspi.h,'$(BELOW)/$(it)')
+	for it in $(LIBRARY_PLACES); do \
+	  if [ -e '$(BELOW)'/"$$it" ] || [ -L '$(BELOW)'/"$$it" ]; then \
+	    rm '$(BELOW)'/"$$it" && echo 'removed $(BELOW)'/"$$it" || exit 1; \
+	  fi; \
+	done

@@ -58,7 +58,7 @@ def want_runs(program, folder):
 @check("make install puts the program and what belongs to it in place, the program needs no environment, and make uninstall takes all away")
 def installed(room):
     below = f"{room}/dest with a space/opt/local"
-    where = [f"LDBTOOL={under_test()}", f"DESTDIR={room}/dest with a space", "PREFIX=/opt/local"]
+    where = [f"LDBTOOL={under_test()}", f"DESTDIR={room}/dest with a space", "PREFIX=/opt/local", "LIBRARY=none"]
     places = ["bin/ldbtool", *PLACES.values()]
     want(made("install", *where), [f"installed {below}/{it}" for it in places], "make install")
     want(files_below(below), sorted(places), "what is installed")
@@ -76,12 +76,71 @@ def installed(room):
     want(os.path.exists(f"{below}/share/doc/ldbtool"), False, "the folder of its documents is there")
 
 
-def packed(room, name):
-    """Makes a package of the program, and returns its file and what is in it."""
-    file = made("deb", f"LDBTOOL={under_test()}", f"DEB={room}/{name}")[-1]
-    want(bool(re.fullmatch(r"ldbtool_\d+\.\d+\.\d+-\d+_\w+\.deb", os.path.basename(file))), True, f"the name {file}")
+# What the C library has, and its place below PREFIX.
+LIBRARY = ["lib/libwachuspi.a", "lib/libwachuspi.so.1", "include/wachuspi.h", "lib/libwachuspi.so", "lib/pkgconfig/wachuspi.pc"]
+STAND_IN = "unsigned wch_version(void) { return 1; }\n"
+USES = '#include <wachuspi.h>\nint main(void) { return wch_version() != WCH_VERSION; }\n'
+
+
+def built_library(room):
+    """The library of build/, or of build/unproved/; where there is none, one of one function."""
+    for folder in (f"{ROOT}/build", f"{ROOT}/build/unproved"):
+        if os.path.isfile(f"{folder}/libwachuspi.so.1"):
+            return folder
+    os.mkdir(f"{room}/library")
+    with open(f"{room}/library/made.c", "w", encoding="utf-8") as source:
+        source.write(STAND_IN)
+    for words in (
+        ["cc", "-fPIC", "-c", "made.c"], ["ar", "rcsD", "libwachuspi.a", "made.o"],
+        ["cc", "-shared", "-o", "libwachuspi.so.1", "made.o", "-Wl,-soname,libwachuspi.so.1"],
+    ):  # fmt: skip
+        subprocess.run(words, cwd=f"{room}/library", check=True, timeout=SECONDS)
+    return f"{room}/library"
+
+
+def want_uses(room, below, sysroot):
+    """Builds a program by what pkg-config says of what is installed, and runs it."""
+    if not shutil.which("pkg-config"):
+        return
+    with open(f"{room}/uses.c", "w", encoding="utf-8") as source:
+        source.write(USES)
+    found = [path for path, _, names in os.walk(below) if "wachuspi.pc" in names]
+    where = {**os.environ, "PKG_CONFIG_PATH": found[0], "PKG_CONFIG_SYSROOT_DIR": sysroot}
+    where = {**where, "PKG_CONFIG_ALLOW_SYSTEM_CFLAGS": "1", "PKG_CONFIG_ALLOW_SYSTEM_LIBS": "1"}
+    said = subprocess.run(["pkg-config", "--cflags", "--libs", "wachuspi"], env=where, check=True, capture_output=True, text=True, timeout=SECONDS)
+    subprocess.run(["cc", "uses.c", "-o", "uses", *said.stdout.split()], cwd=room, check=True, timeout=SECONDS)
+    libraries = {**os.environ, "LD_LIBRARY_PATH": os.path.dirname(found[0])}
+    want(subprocess.run([f"{room}/uses"], env=libraries, timeout=SECONDS).returncode, 0, "a program over what is installed")
+
+
+@check("make install puts the C library in place if it was built, a program finds it by pkg-config, and make uninstall takes it away")
+def installed_library(room):
+    below = f"{room}/dest/opt/local"
+    where = [f"LDBTOOL={under_test()}", f"DESTDIR={room}/dest", "PREFIX=/opt/local", f"LIBRARY={built_library(room)}"]
+    places = ["bin/ldbtool", *PLACES.values(), *LIBRARY]
+    want(made("install", *where), [f"installed {below}/{it}" for it in places], "make install")
+    want(files_below(below), sorted(places), "what is installed")
+    want(bytes_of(below, "include/wachuspi.h") == bytes_of(ROOT, "include/wachuspi.h"), True, "the header")
+    want_uses(room, below, f"{room}/dest")
+    want(made("uninstall", *where), [f"removed {below}/{it}" for it in [*LIBRARY, *places[: -len(LIBRARY)]]], "make uninstall")
+    want(files_below(below), [], "what is left")
+
+
+def packed(room, name, package="ldbtool", library="none"):
+    """Makes a package, and returns its file and what is in it."""
+    files = made("deb", f"LDBTOOL={under_test()}", f"DEB={room}/{name}", f"LIBRARY={library}")
+    file = [it for it in files if os.path.basename(it).startswith(f"{package}_")][0]
+    want(bool(re.fullmatch(package + r"_\d+\.\d+\.\d+-\d+_\w+\.deb", os.path.basename(file))), True, f"the name {file}")
     subprocess.run(["dpkg-deb", "-R", file, f"{room}/{name}/tree"], check=True, timeout=SECONDS)
     return file, f"{room}/{name}/tree"
+
+
+def want_sums(tree):
+    """Checks the sums of a package's files."""
+    ran = subprocess.run(["md5sum", "--check", "--quiet", "DEBIAN/md5sums"], cwd=tree, capture_output=True, text=True, timeout=SECONDS)
+    want((ran.returncode, ran.stdout), (0, ""), "its sums")
+    plain = [it for it in files_below(f"{tree}/usr") if not os.path.islink(f"{tree}/usr/{it}")]
+    want(len(bytes_of(tree, "DEBIAN/md5sums").splitlines()), len(plain), "how many sums there are")
 
 
 @check("make deb makes the same Debian package each time, whose files and sums are right, and lintian finds no error in it")
@@ -96,13 +155,26 @@ def package(room):
         want(bytes_of(f"{tree}/usr", place) == bytes_of(ROOT, name), True, f"{place} is {name}")
     for name, place in PACKED.items():
         want(gzip.decompress(bytes_of(f"{tree}/usr", place)) == bytes_of(ROOT, name), True, f"{place} is {name}")
-    ran = subprocess.run(["md5sum", "--check", "--quiet", "DEBIAN/md5sums"], cwd=tree, capture_output=True, text=True, timeout=SECONDS)
-    want((ran.returncode, ran.stdout), (0, ""), "its sums")
-    want(len(bytes_of(tree, "DEBIAN/md5sums").splitlines()), len(files_below(f"{tree}/usr")), "how many sums there are")
+    want_sums(tree)
     if not shutil.which("lintian"):
         return "without lintian, which isn't installed"
     ran = subprocess.run(["lintian", "--fail-on", "error", "--allow-root", file], capture_output=True, text=True, timeout=5 * SECONDS)
     want((ran.returncode, [it for it in ran.stdout.splitlines() if it.startswith("E:")]), (0, []), "what lintian says")
+    return None
+
+
+@check("make deb makes a package of the C library, if it was built, and a program finds it by pkg-config")
+def library_package(room):
+    if not shutil.which("dpkg-deb"):
+        return "left out, since this is no Debian system"
+    library = built_library(room)
+    file, tree = packed(room, "one", "libwachuspi-dev", library)
+    again, _ = packed(room, "two", "libwachuspi-dev", library)
+    want(bytes_of(file, "") == bytes_of(again, ""), True, "two packages are the same")
+    names = {re.sub(r"^lib/[\w-]+/(?=lib|pkgconfig)", "lib/", it) for it in files_below(f"{tree}/usr")}
+    want(names >= set(LIBRARY) | {"share/doc/libwachuspi-dev/copyright"}, True, f"what is in it: {sorted(names)}")
+    want_sums(tree)
+    want_uses(room, f"{tree}/usr", tree)
     return None
 
 

@@ -1,5 +1,5 @@
 -- A directory that reads the same is the same.
-use Rattle.std.proofs.Common.{◌≡◌, inl, inr, ℕ, true, List, [], ◌∷◌, Option, Some, None, is_some, refl, sym, ap, subst, ◌∙◌, Contains}
+use Rattle.std.proofs.Common.{◌≡◌, inl, inr, ℕ, true, List, [], ◌∷◌, Option, Some, None, is_some, refl, sym, ap, subst, ◌∙◌}
 use Rattle.std.specs.FinMap.{get, contains_key}
 use Rattle.std.specs.Option.{option_or}
 use Rattle.logfile.specs.Log.{IsLog}
@@ -18,15 +18,16 @@ use Rattle.mending.specs.Mending.{IsLogged}
 use Rattle.mending.proofs.AppliedCuts.{apart_from}
 use Rattle.mending.proofs.Leaving.{lock_apart, mine_logged}
 use Rattle.mended_losses.specs.Consistent.{ConsistentLaw, Covers}
-use Rattle.mended_losses.specs.Reading.{HasFile, ReadsAs}
+use Rattle.mended_losses.specs.Reading.{HasFile, HasName, ReadsAs}
 
 some_of : (o : Option (List ℕ)) → is_some o ≡ true → (x : List ℕ) × (o ≡ Some x)
 some_of None e = absurd (cc)
 some_of (Some x) e = (x, refl)
 
--- whichever of the two names it has
-same_table : (a b c d : Option (List ℕ)) → a ≡ c → b ≡ d → option_or a b ≡ option_or c d
-same_table a b c d e f i = option_or (e i) (f i)
+-- the one with the older name is read if the other isn't there
+pub same_table : (a b c d : Option (List ℕ)) → a ≡ c → (c ≡ None → b ≡ d) → option_or a b ≡ option_or c d
+same_table a b None d e f = λ i. option_or (e i) (f refl i)
+same_table a b (Some x) d e f = ap (λ (o : Option (List ℕ)). option_or o b) e
 
 module _ (order : Order) (mended plain : Files) (number : ℕ) (layout : Layout) (logs : List FileName) (others : List (List ℕ)) (numbered : IsNumbered number) (r : ReadsAs number layout logs others mended plain) where
   -- a log or a MANIFEST is there in both, or in none
@@ -51,11 +52,14 @@ module _ (order : Order) (mended plain : Files) (number : ℕ) (layout : Layout)
   each_log [] among h = tt
   each_log (content ∷ contents) among h = (one_log content (among content.number (inl refl)) h.0, each_log contents (λ n later. among n (inr later)) h.1)
 
-  one_table : (content : TableContent) → Contains others (name_of (Table content.placed.table.number)) × Contains others (name_of (OldTable content.placed.table.number)) → HasTable order plain content → HasTable order mended content
+  abbrev AreAmong : TableContent → Type 0
+  AreAmong content = HasName others (name_of (Table content.placed.table.number)) × (get plain (name_of (Table content.placed.table.number)) ≡ None → HasName others (name_of (OldTable content.placed.table.number)))
+
+  one_table : (content : TableContent) → AreAmong content → HasTable order plain content → HasTable order mended content
   one_table content among h =
       let n = content.placed.table.number in
       let same : table_at mended n ≡ table_at plain n =
-      same_table (get mended (name_of (Table n))) (get mended (name_of (OldTable n))) (get plain (name_of (Table n))) (get plain (name_of (OldTable n))) (r.same (name_of (Table n)) among.0) (r.same (name_of (OldTable n)) among.1) in
+      same_table (get mended (name_of (Table n))) (get mended (name_of (OldTable n))) (get plain (name_of (Table n))) (get plain (name_of (OldTable n))) (r.same (name_of (Table n)) among.0) (λ none. r.same (name_of (OldTable n)) (among.1 none)) in
       record {
         numbered = h.numbered;
         bytes = h.bytes;
@@ -67,12 +71,12 @@ module _ (order : Order) (mended plain : Files) (number : ℕ) (layout : Layout)
         largest = h.largest;
       }
 
-  each_table : (contents : List TableContent) → ((content : TableContent) → InTables contents content → Contains others (name_of (Table content.placed.table.number)) × Contains others (name_of (OldTable content.placed.table.number)))
+  each_table : (contents : List TableContent) → ((content : TableContent) → InTables contents content → AreAmong content)
       → HasTables order plain contents → HasTables order mended contents
   each_table [] among h = tt
   each_table (content ∷ contents) among h = (one_table content (among content (inl refl)) h.0, each_table contents (λ other later. among other (inr later)) h.1)
 
-  pub consistent_there : (d : Directory) → Covers d logs others → IsConsistent order plain d → IsConsistent order mended d
+  pub consistent_there : (d : Directory) → Covers plain d logs others → IsConsistent order plain d → IsConsistent order mended d
   consistent_there d c h =
       let m = h.manifest in
       let x = found (Manifest d.manifest) m.bytes m.spelled.records m.spelled.tail m.numbered c.manifest m.there m.spelled.log in

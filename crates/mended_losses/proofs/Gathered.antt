@@ -27,7 +27,7 @@ gets f (name ∷ names) q =
     get-with_file (gathered f names) name (f name) q ∙ ap (λ (o : Option (List ℕ)). cond (is_same q name) (f name) o) (gets f names q)
     ∙ one_way f q name (is_same q name) (list_any (is_same q) names) refl
 
-none_of : (o : Option (List ℕ)) → is_some o ≡ false → o ≡ None
+pub none_of : (o : Option (List ℕ)) → is_some o ≡ false → o ≡ None
 none_of None e = refl
 none_of (Some x) e = absurd (cc)
 

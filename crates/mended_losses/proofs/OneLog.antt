@@ -8,10 +8,10 @@ use Rattle.logfile.proofs.Holes.{holed_log}
 use Rattle.logfile.proofs.Longest.{longest_cut}
 use Rattle.store.specs.Losses.{BeginsWith}
 use Rattle.mending.specs.Cutting.{Becomes, IsCut, IsReadable}
-use Rattle.mending.specs.declared.ends.Ends.TheVariants.{Holes}
+use Rattle.mending.specs.declared.ends.Ends.{Ends}
 use Rattle.mending.proofs.Fronts.{at_of, no_log_there, one_cut_front}
 use Rattle.mended_losses.specs.Laws.{MendedLogLaw, PlainLossLaw, ReadsAsPrefix}
-use Rattle.mended_losses.specs.Reading.{WasLog}
+use Rattle.mended_losses.specs.Reading.{WasLog, WasWritten}
 
 -- ---- prefixes
 
@@ -63,47 +63,50 @@ cut_off held bytes synced h b =
     let over = take_over (length bytes) synced h.0 long in
     (take over.0 h.0, ap (λ (v : List ℕ). take (length bytes) v) h.1 ∙ over.1)
 
-whole_left : (held bytes front : List ℕ) (kept : Option (List ℕ)) → WasLog held kept bytes → ((synced : List ℕ) → kept ≡ Some synced → BeginsWith bytes synced) → Becomes Holes bytes front → ReadsAsCut held bytes → ReadsAsPrefix held kept front
-whole_left held bytes front kept was keeps b r = elim b.how [
+-- what of these bytes is synced is left
+abbrev Keeps : Option (List ℕ) → List ℕ → Type 0
+Keeps kept bytes = (synced : List ℕ) → kept ≡ Some synced → BeginsWith bytes synced
+
+whole_left : (ends : Ends) (held bytes front : List ℕ) (kept : Option (List ℕ)) → WasLog held kept → Keeps kept bytes → Becomes ends bytes front → ReadsAsCut held bytes → ReadsAsPrefix held kept front
+whole_left ends held bytes front kept was keeps b r = elim b.how [
   | inl is ↦ (
     take (length bytes) held,
     (drop (length bytes) held, sym (take-append-drop (length bytes) held)),
     λ synced k. cut_off held bytes synced (was.synced synced k).0 (keeps synced k),
     (r.records, r.tail, subst (λ (v : List ℕ). IsLog v r.records r.tail) (sym is) r.log, r.cut),
   )
-  | inr cut ↦ absurd (no_log_there Holes bytes front cut (r.records, r.tail, r.log))
+  | inr cut ↦ absurd (no_log_there ends bytes front cut (r.records, r.tail, r.log))
 ]
 
 -- ---- it is cut
 
-all_synced : (held bytes synced front : List ℕ) (kept : Option (List ℕ)) → WasLog held kept bytes → IsHoled held bytes → (c : IsCutTo held bytes) → synced ≡ held → BeginsWith bytes synced → ⊥
-all_synced held bytes synced front kept was holed c is b =
+all_synced : (held bytes synced : List ℕ) (kept : Option (List ℕ)) → WasLog held kept → IsHoled held bytes → (c : IsCutTo held bytes) → synced ≡ held → BeginsWith bytes synced → ⊥
+all_synced held bytes synced kept was holed c is b =
     let same : bytes ≡ held = same_long bytes held (subst (λ (v : List ℕ). BeginsWith bytes v) is b) holed.short in
     cut_none bytes c.front was.records was.tail c.at (subst (λ (v : List ℕ). IsLog v was.records was.tail) (sym same) was.log)
 
-cut_left : (held bytes front : List ℕ) (kept : Option (List ℕ)) → WasLog held kept bytes → IsHoled held bytes → ((synced : List ℕ) → kept ≡ Some synced → BeginsWith bytes synced) → IsReadable front → IsCut Holes bytes front → IsCutTo held bytes
-    → ReadsAsPrefix held kept front
-cut_left held bytes front kept was holed keeps readable cut c =
-    let same : front ≡ c.front = one_cut_front bytes front c.front (at_of Holes bytes front cut) c.at in (
+cut_left : (ends : Ends) (held bytes front : List ℕ) (kept : Option (List ℕ)) → WasLog held kept → IsHoled held bytes → Keeps kept bytes → IsReadable front → IsCut ends bytes front → IsCutTo held bytes → ReadsAsPrefix held kept front
+cut_left ends held bytes front kept was holed keeps readable cut c =
+    let same : front ≡ c.front = one_cut_front bytes front c.front (at_of ends bytes front cut) c.at in (
       front,
       (c.more, c.begins ∙ ap (λ (v : List ℕ). v ++ c.more) (sym same)),
       λ synced k.
           let b = keeps synced k in
           elim (was.synced synced k).1 [
-            | inl all ↦ absurd (all_synced held bytes synced front kept was holed c all b)
+            | inl all ↦ absurd (all_synced held bytes synced kept was holed c all b)
             | inr whole ↦ let l = longest_cut bytes c.front synced b.0 whole.0 c.at b.1 whole.1 in (l.0, same ∙ l.1)
           ],
       (readable.0, readable.1, readable.2, readable.2),
     )
 
-cut_or_not : (held bytes front : List ℕ) (kept : Option (List ℕ)) → WasLog held kept bytes → IsHoled held bytes → ((synced : List ℕ) → kept ≡ Some synced → BeginsWith bytes synced) → Becomes Holes bytes front → IsCutTo held bytes → ReadsAsPrefix held kept front
-cut_or_not held bytes front kept was holed keeps b c = elim b.how [
+cut_or_not : (ends : Ends) (held bytes front : List ℕ) (kept : Option (List ℕ)) → WasLog held kept → IsHoled held bytes → Keeps kept bytes → Becomes ends bytes front → IsCutTo held bytes → ReadsAsPrefix held kept front
+cut_or_not ends held bytes front kept was holed keeps b c = elim b.how [
   | inl is ↦ (let r = subst IsReadable is b.readable in absurd (cut_none bytes c.front r.0 r.1 c.at r.2))
-  | inr cut ↦ cut_left held bytes front kept was holed keeps b.readable cut c
+  | inr cut ↦ cut_left ends held bytes front kept was holed keeps b.readable cut c
 ]
 
 pub one_log : MendedLogLaw
-one_log held bytes front kept was holed keeps b = elim (holed_log held bytes was.records was.tail was.log holed was.written was.all_bytes) [
-  | inl reads ↦ whole_left held bytes front kept was keeps b reads
-  | inr cut ↦ cut_or_not held bytes front kept was holed keeps b cut
+one_log ends held bytes front kept was written holed keeps b = elim (holed_log held bytes was.records was.tail was.log holed written.there written.all_bytes) [
+  | inl reads ↦ whole_left ends held bytes front kept was keeps b reads
+  | inr cut ↦ cut_or_not ends held bytes front kept was holed keeps b cut
 ]

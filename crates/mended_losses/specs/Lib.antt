@@ -1,3 +1,4 @@
+pub mod Between
 pub mod Consistent
 pub mod Laws
 pub mod Losses

@@ -1,11 +1,19 @@
 //! Laws of mended files. A law is the contract of a function that does nothing.
 
+ghost use Rattle.mended_losses.specs.Between.{BetweenLaw};
 ghost use Rattle.mended_losses.specs.Consistent.{ConsistentLaw};
 ghost use Rattle.mended_losses.specs.Laws.{MendedLogLaw, MendedLossLaw, MendedLossesLaw, PlainLossLaw};
+ghost use Rattle.mended_losses.specs.Laws.{ZeroedLossLaw};
 
 /// Proves that a power loss without zeros is one of those that may leave zeros.
 pub fn plain_loss()
     ensures { PlainLossLaw }
+{}
+
+/// Proves that so is one that leaves zeros at the ends of files alone, and that `Ends::Zeros` is
+/// enough there.
+pub fn zeroed_loss()
+    ensures { ZeroedLossLaw }
 {}
 
 /// Proves that a mended log reads as a prefix of what was held, with all that was synced.
@@ -14,7 +22,7 @@ pub fn mended_log()
 {}
 
 /// Proves that mended files read as a power loss without zeros could have left them, at the same
-/// moment. Its premises are those of `HoldsLogs`.
+/// moment. Its premises are those of `HoldsLogs` and `LeavesWritten`.
 pub fn mended_loss()
     ensures { MendedLossLaw }
 {}
@@ -28,4 +36,10 @@ pub fn mended_losses()
 /// proved of such directories holds of mended files, too.
 pub fn same_directory()
     ensures { ConsistentLaw }
+{}
+
+/// Proves that the premises of `mended_losses` hold between two calls of an open database, but for
+/// `LeavesNoChance`. So mended files are the directory that a power loss without zeros could leave.
+pub fn between_calls()
+    ensures { BetweenLaw }
 {}

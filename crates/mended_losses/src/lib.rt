@@ -4,4 +4,6 @@
 
 mod laws;
 
-pub use laws::{mended_log, mended_loss, mended_losses, plain_loss, same_directory};
+pub use laws::{
+    between_calls, mended_log, mended_loss, mended_losses, plain_loss, same_directory, zeroed_loss,
+};

@@ -1,6 +1,10 @@
 -- What a power loss may leave of a directory. What is assumed of the disk:
 --
 -- - After a sync succeeds, what the file held then is on disk, and all names as they were then.
+-- (After a failed sync Linux may answer so though nothing was written. So a store over a folder
+-- marks a file whose sync failed, and writes it anew at its next sync. Three things are assumed. No
+-- sync of a folder lies. What was read of a file is read again. No sync failed in a program that
+-- leaves no mark, as LevelDB, or that ended before it left one.)
 -- - Later names reach the disk in the order of the calls that changed them: those of one moment are
 --   found, and no mixture of two.
 -- - Of each file a beginning of what was added to it is found, with what of it was synced at least.

@@ -6,6 +6,7 @@ ghost use Rattle.store.specs.FileFacts.{counted_facts};
 ghost use Rattle.store.specs.Calls.{Counts};
 
 use crate::counters::{Counters, Failed};
+use crate::doubts::{Doubts, sync_file};
 use crate::failure::{Failure, Unlisted};
 use crate::folder::Folder;
 use crate::{ShortName, Store, StoreError, Trouble, Why};
@@ -34,7 +35,9 @@ use std::alloc::Global;
 /// `remove` act on the link itself.
 ///
 /// **Syncs.** `sync` is `fdatasync` of that file. The first one after `create`, `rename`, `remove`
-/// or a new lock makes the folder's entries durable before that.
+/// or a new lock makes the folder's entries durable before that. If a sync fails, the system may
+/// have dropped what it couldn't write, and answer Ok to the next one. So the next sync of that
+/// file, by this store or by another process, writes it anew (`sync_file` in doubts.rt).
 ///
 /// **The lock** is one of `fcntl` on `LOCK`, as LevelDB's own (`LockOrUnlock` in
 /// util/env_posix.cc), so the two keep each other out. A store that is dropped releases it. It is
@@ -48,6 +51,7 @@ use std::alloc::Global;
 #[derive(Drop)]
 pub struct FileStore {
     folder: Folder,
+    doubts: Doubts,
     locked: bool,
     counters: Counters,
     noted: Trouble,
@@ -65,6 +69,7 @@ impl FileStore {
         };
         Ok(FileStore {
             folder,
+            doubts: Doubts::none(rt.alloc()),
             locked: false,
             counters: Counters::new(),
             noted: Trouble::none(),
@@ -87,7 +92,10 @@ impl Store for FileStore {
 
     fn list(&mut self, alloc: Global) -> Result<Vec<String>, StoreError> {
         match self.folder.list(alloc) {
-            Ok(names) => Ok(names),
+            Ok(names) => match self.doubts.see(&self.folder, names.as_slice()) {
+                Ok(()) => Ok(names),
+                Err(_) => Err(StoreError::Memory),
+            },
             Err(Unlisted { failure, name }) => {
                 let error = changing(failure.error);
                 self.keep_at(why_unlisted(failure), name, error, failure);
@@ -156,7 +164,7 @@ impl Store for FileStore {
     }
 
     fn sync(&mut self, name: &str) -> Result<(), StoreError> {
-        match self.folder.sync(name) {
+        match sync_file(&mut self.folder, &mut self.doubts, name) {
             Ok(()) => Ok(()),
             Err(failure) => {
                 self.keep(Why::Sync, name, StoreError::Device, failure);

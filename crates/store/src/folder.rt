@@ -5,6 +5,8 @@
 
 ghost use Rattle.std.specs.Prelude.{◌≤◌, length, IfOk};
 
+mod owner;
+
 use crate::failure::{Failure, Unlisted, is_full};
 use crate::identity::Identity;
 use crate::names::{CURRENT, LOCK, is_of_database, number_in, temporary};

@@ -2,6 +2,7 @@
 #![tactic(auto)]
 
 mod counters;
+mod doubts;
 mod error;
 mod failure;
 mod fault_store;

@@ -38,6 +38,16 @@ fn before_ending(name: &str) -> Option<&str> {
     }
 }
 
+/// Returns the number in a name, if it is one of 64 bits.
+pub fn number_of(name: &str) -> Option<u64> {
+    number_in(name)?.parse().ok()
+}
+
+/// Says whether a name is that of a temporary file.
+pub fn is_temporary(name: &str) -> bool {
+    name.ends_with(TEMPORARY)
+}
+
 /// Returns the name of the temporary file that has this number.
 pub fn temporary(alloc: Global, digits: &str) -> Result<String, AllocError> {
     let mut name = String::from_str(alloc, digits)?;

@@ -1,7 +1,7 @@
 // What a store over a folder of the system does.
 use crate::stores::{CALLS, REPLACED, Row, Step, first_wrong, perform};
 use std::alloc::{AllocError, Global};
-use std::os::unix::fs::{PermissionsExt, symlink};
+use std::os::unix::fs::{MetadataExt, PermissionsExt, symlink};
 use std::test::*;
 use std::{env, fs, process};
 use store::{FileStore, Store, StoreError};
@@ -287,6 +287,71 @@ fn nothing_is_written_through_a_link(rt: HostRuntime) -> Result<(), Fail> {
     assert!(rt; !fs::exists(&rt, missing.as_str())?);
     fs::remove_dir_all(&rt, folder.as_str())?;
     fs::remove_dir_all(&rt, outside.as_str())?;
+    Ok(())
+}
+
+// ---- files in doubt
+
+// What is longer than what is copied at once.
+const LONG_LOG: usize = 600_000;
+
+// A temporary file marks the others of its number. A sync of one that isn't there marks nothing.
+const MARKED: &[Row] = &[
+    (Step::Names("000003.dbtmp;000003.log;000004.log;"), Ok(true)),
+    (Step::Sync("000003.log"), Ok(true)),
+    (Step::Sync("000004.log"), Ok(true)),
+    (Step::Sync("000005.log"), Err(StoreError::Device)),
+    (Step::Names("000003.log;000004.log;"), Ok(true)),
+    (Step::Sync("000003.log"), Ok(true)),
+    (Step::Append("000004.log", b"+"), Ok(true)),
+    (Step::Holds("000004.log", b"there+"), Ok(true)),
+];
+
+// Some bytes, none of them as those beside it.
+fn long_log(alloc: Global) -> Result<Vec<u8>, AllocError> {
+    let mut bytes = Vec::new(alloc);
+    for place in 0..LONG_LOG {
+        bytes.push((place % 251) as u8)?;
+    }
+    Ok(bytes)
+}
+
+// The number of a file, and its permissions.
+fn node_of(rt: &HostRuntime, folder: &str, name: &str) -> Result<(u64, u32), Fail> {
+    let path = within(rt, folder, name)?;
+    let found = fs::metadata(rt, path.as_str())?;
+    Ok((found.ino(), found.permissions().mode()))
+}
+
+fn has_bytes(rt: &HostRuntime, folder: &str, name: &str, bytes: &[u8]) -> Result<bool, Fail> {
+    let path = within(rt, folder, name)?;
+    Ok(fs::read(rt, path.as_str())?.as_slice() == bytes)
+}
+
+fn write_files(rt: &HostRuntime, folder: &str, long: &[u8]) -> Result<(), Fail> {
+    let marked = within(rt, folder, "000003.log")?;
+    fs::write(rt, marked.as_str(), long)?;
+    permit(rt, marked.as_str(), 0o640)?;
+    let mark = within(rt, folder, "000003.dbtmp")?;
+    fs::write(rt, mark.as_str(), "")?;
+    let other = within(rt, folder, "000004.log")?;
+    fs::write(rt, other.as_str(), "there")?;
+    Ok(())
+}
+
+#[test]
+fn a_file_in_doubt_is_written_anew_and_no_other_is(rt: HostRuntime) -> Result<(), Fail> {
+    let folder = fresh_folder(&rt, "doubted")?;
+    let long = long_log(rt.alloc())?;
+    write_files(&rt, folder.as_str(), long.as_slice())?;
+    let marked = node_of(&rt, folder.as_str(), "000003.log")?;
+    let other = node_of(&rt, folder.as_str(), "000004.log")?;
+    assert_eq!(rt; first_wrong_in(&rt, folder.as_str(), MARKED), Ok(None));
+    let found = node_of(&rt, folder.as_str(), "000003.log")?;
+    assert!(rt; found.0 != marked.0 && found.1 == marked.1);
+    assert!(rt; node_of(&rt, folder.as_str(), "000004.log")? == other);
+    assert!(rt; has_bytes(&rt, folder.as_str(), "000003.log", long.as_slice())?);
+    fs::remove_dir_all(&rt, folder.as_str())?;
     Ok(())
 }
 

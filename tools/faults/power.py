@@ -1,24 +1,37 @@
-"""Power losses on ext4 itself, for tools/faults/soak: a file system with its default options in a
-loop device, whose image is copied while databases are written. It needs root and a loop device.
+"""Power losses on ext4, XFS and Btrfs themselves, for tools/faults/soak: a file system with its
+default options in a loop device, whose image is copied while databases are written. It needs root,
+a loop device, and the programs that make such file systems (Debian's xfsprogs and btrfs-progs).
 
-The kernel gives each file's size to the journal five seconds after an append, and the bytes later,
-so copies are of some twenty moments. In each the directories are mended by `ldbtool mend` where a
-check refuses them, and hold what was synced then.
+    python3 tools/faults/power.py [NAME..]    ext4, xfs, btrfs; over build/ldbtool, or LDBTOOL=FILE
+
+On ext4 the kernel gives each file's size to the journal five seconds after an append, and the bytes
+later, so copies are of some twenty moments. In each the directories are mended by `ldbtool mend`
+where a check refuses them, and hold what was synced then.
 """
-import filecmp
+import functools
 import os
 import random
 import shutil
 import subprocess
+import sys
 import tempfile
 import threading
 import time
 
-from listed import Wrong
+sys.path.insert(1, f"{os.path.dirname(os.path.abspath(__file__))}/..")
+from listed import Wrong, refuse
 from machine import word
-from running import ldbtool, under_test
+from running import ldbtool, missing, under_test
 
 CUTS = 20
+
+# of each file system its size in megabytes (XFS has at least 300), what makes one, and whether some
+# directory must have ended in zeros
+SYSTEMS = {
+    "ext4": (32, ("mkfs.ext4", "-q", "-F"), True),
+    "xfs": (300, ("mkfs.xfs", "-q", "-f"), False),
+    "btrfs": (160, ("mkfs.btrfs", "-q", "-f"), False),
+}
 
 # the sizes of a database's values, how many batches come from one sync to the next, the seconds
 # between them, and the options
@@ -36,6 +49,8 @@ class Unable(Exception):
 
 
 def system(*words):
+    if not shutil.which(words[0]):
+        raise Unable(f"there is no {words[0]}")
     ran = subprocess.run(words, capture_output=True, text=True, check=False)
     if ran.returncode:
         raise Unable(f"`{' '.join(words[:2])}` fails: {ran.stderr.strip()[:200]}")
@@ -94,11 +109,34 @@ class Writer(threading.Thread):
             self.fault = f"{line[:80]!r} was answered {answer!r}"
 
 
+def parts(file):
+    """Yields each part of a file that has data, with its place."""
+    size, at = os.fstat(file.fileno()).st_size, 0
+    while at < size:
+        try:
+            at = os.lseek(file.fileno(), at, os.SEEK_DATA)
+        except OSError:
+            return
+        end = os.lseek(file.fileno(), at, os.SEEK_HOLE)
+        file.seek(at)
+        yield at, file.read(end - at)
+        at = end
+
+
+def is_same(image, copy):
+    with open(image, "rb", buffering=0) as one, open(copy, "rb", buffering=0) as other:
+        return list(parts(one)) == list(parts(other))
+
+
 def copied(image, to):
     """Copies the image until a copy is that of one moment, and returns whether one was."""
     for _ in range(8):
-        shutil.copyfile(image, to)
-        if filecmp.cmp(image, to, shallow=False):
+        with open(image, "rb", buffering=0) as file, open(to, "wb") as copy:
+            copy.truncate(os.fstat(file.fileno()).st_size)
+            for at, data in parts(file):
+                copy.seek(at)
+                copy.write(data)
+        if is_same(image, to):
             return True
     return False
 
@@ -160,24 +198,25 @@ def judged(room, copies):
     return count, mended
 
 
-def lost_power():
-    """Tries it, and returns a line that says what was found. Raises Unable where it can't be
-    tried."""
+def lost_power(name):
+    """Tries it on this file system, and returns a line that says what was found. Raises Unable
+    where it can't be tried."""
     if os.geteuid() != 0:
         raise Unable("this user isn't root")
-    with tempfile.TemporaryDirectory(prefix="ext4-") as room:
+    size, words, has_zeros = SYSTEMS[name]
+    with tempfile.TemporaryDirectory(prefix=f"{name}-") as room:
         image = f"{room}/image"
         with open(image, "wb") as file:
-            file.truncate(32 << 20)
-        system("mkfs.ext4", "-q", "-F", image)
+            file.truncate(size << 20)
+        system(*words, image)
         with Mounted(image, f"{room}/mounted") as place:
             copies, faults = written(image, room, place)
         if faults:
             raise Wrong(faults[0])
         count, mended = judged(room, copies)
-    if not mended:
+    if has_zeros and not mended:
         raise Wrong(f"none of {count} directories ended in zeros")
-    return f"{count} directories of {len(copies)} cuts on ext4 hold what was synced, {mended} of them mended"
+    return f"{count} directories of {len(copies)} cuts on {name} hold what was synced, {mended} of them mended"
 
 
 def written(image, room, place):
@@ -195,3 +234,37 @@ def written(image, room, place):
     for it in writers.values():
         it.join()
     return copies, [it.fault for it in writers.values() if it.fault]
+
+
+def losses_on(names):
+    """Returns a check of each of these file systems, with what it tries."""
+    return [(f"power loss on {name}", functools.partial(lost_power, name)) for name in names]
+
+
+def tried(checks, say):
+    """Runs these checks, and returns how many of them passed and failed."""
+    passed = failed = 0
+    for what, check in checks:
+        try:
+            say(check())
+            passed += 1
+        except Unable as why:
+            say(f"no {what} is tried: {why}")
+        except Wrong as fault:
+            say(f"WRONG  a {what}: {fault}")
+            failed += 1
+    return passed, failed
+
+
+def main(names):
+    if names[:1] in (["-h"], ["--help"]) or set(names) - set(SYSTEMS):
+        return refuse(__doc__)
+    if missing():
+        return refuse(f"power: {missing()}")
+    passed, failed = tried(losses_on(names or SYSTEMS), lambda line: print(line, flush=True))
+    print(f"{passed} passed, {failed} failed")
+    return 1 if failed else 0
+
+
+if __name__ == "__main__":
+    sys.exit(main(sys.argv[1:]))
