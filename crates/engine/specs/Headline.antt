@@ -3,6 +3,7 @@ use Rattle.std.specs.Prelude.{◌≡◌, ◌⊎◌, ◌≤◌, ℕ, Bool, false,
 use Rattle.std.specs.Cmp.{IsTotalOrder}
 use Rattle.std.specs.FinMap.{contains_key}
 use Rattle.store.specs.Files.{Files, Facts}
+use Rattle.directory_writes.specs.Differing.{with_files}
 use Rattle.ikey.specs.Orders.{Order}
 use Rattle.ikey.specs.Views.{IsView}
 use Rattle.ikey.specs.declared.entry.Entry.{Entry}
@@ -16,6 +17,7 @@ use Rattle.machine.specs.declared.command.Op.{Op}
 use Rattle.machine.specs.Access.{accepted}
 use Rattle.machine.specs.Machine.{Machine, current, entry_weight}
 use Rattle.machine.specs.Step.{Run}
+use Rattle.engine.specs.Origins.{ComesFrom}
 
 -- The files are a database of what the machine accepted: they are empty or a consistent directory,
 -- whose entries show its map.
@@ -26,7 +28,8 @@ pub record Holds (order : Order) (files : Files) (m : Machine) : Type 0 where
 
 -- They hold it with the in-doubt batch as a whole, or without it.
 abbrev pub HoldsAccepted : Order → Files → Machine → Type 0
-HoldsAccepted order files m = MatchOption m.in_doubt (Holds order files m) (λ batch. Holds order files m ⊎ Holds order files (accepted m batch false))
+HoldsAccepted order files m =
+    MatchOption m.in_doubt (Holds order files m) (λ batch. Holds order files m ⊎ Holds order files (accepted m batch false))
 
 -- What else it says of them: whether there is a database, a number from which on all are free, and
 -- whether all of it can be read.
@@ -54,14 +57,21 @@ pub record IsLast (order : Order) (facts : Facts) (m : Machine) : Type 0 where
   pub failures : m.failures ≤ facts.failures
   pub denials : m.denials ≡ facts.denials
 
--- While the store is faithful, each machine of the files at first, which are undamaged, gives these
--- answers to these commands. The files are then those of the machine that it comes to.
+-- While the store is faithful, take any undamaged directory from which the files at first may come
+-- (without damage that is the files themselves), and any machine of it. It gives these answers to
+-- these commands; over damage they may be refusals as damaged, too. And a directory from which the
+-- files at last may come is that of the machine to which it comes.
 abbrev pub Headline : Order → Facts → Facts → List Op → List Answer → Type 0
 Headline order old new ops answers =
-    IsTrue new.faithful → (first : Machine) → IsFirst order old first → first.damaged ≡ false → (last : Machine) × Run order first ops answers last × IsLast order new last
+    IsTrue new.faithful → (before : Files) (first : Machine) → ComesFrom order first.damaged old.files before
+    → IsFirst order (with_files old before) first
+    → (last : Machine) × (after : Files) × Run order first ops answers last
+    × ComesFrom order first.damaged new.files after × IsLast order (with_files new after) last
 
 -- There is a machine of each empty or consistent directory, damaged or not. If the directory passes
 -- no limit, there is one that is over none.
 abbrev pub FirstLaw : Type 0
-FirstLaw = (order : Order) (facts : Facts) (entries : List Entry) (used : ℕ) (over_limit damaged : Bool) → IsTotalOrder order.cmp → IsDirectory order facts.files entries used
-    → (over_limit ≡ false → IsWithinLimits order facts.files) → (first : Machine) × IsFirst order facts first × (first.over_limit ≡ over_limit) × (first.damaged ≡ damaged)
+FirstLaw = (order : Order) (facts : Facts) (entries : List Entry) (used : ℕ) (over_limit damaged : Bool)
+    → IsTotalOrder order.cmp → IsDirectory order facts.files entries used
+    → (over_limit ≡ false → IsWithinLimits order facts.files)
+    → (first : Machine) × IsFirst order facts first × (first.over_limit ≡ over_limit) × (first.damaged ≡ damaged)

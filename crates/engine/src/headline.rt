@@ -4,12 +4,10 @@ ghost use Rattle.std.specs.Prelude.{◌≡◌, ◌++◌, Bool, List, IsTrue, OnO
 ghost use Rattle.coding.specs.declared.error.DbError.TheVariants.{OutOfMemory};
 ghost use Rattle.ikey.specs.Orders.{Order, order_of};
 ghost use Rattle.machine.specs.declared.command.Answer.{Answer};
-ghost use Rattle.engine.specs.Headline.{FirstLaw, Headline};
+ghost use Rattle.engine.specs.Headline.{FirstLaw};
 ghost use Rattle.engine.specs.Origins.{ComesFrom};
-ghost use Rattle.engine.specs.LosesRun.{LosesRun};
-ghost use Rattle.engine.specs.OverDamage.{OverDamage};
+ghost use Rattle.engine.specs.Promised.{Promised};
 ghost use Rattle.store.specs.Files.{Files};
-ghost use Rattle.engine.specs.Stops.{StopsRun};
 ghost use Rattle.engine.specs.Touching.{LeavesStore};
 ghost use Rattle.engine.specs.internal.Bridges.{StartsLaw, EndsLaw};
 
@@ -57,18 +55,8 @@ pub fn run_over<S: Store, K: KeyOrder>(
     ops: &[Op],
     sink: &mut Vec<Answer>,
 ) -> (Result<(), DbError>, S)
-    ensures headline { OnOk result.0 ((answers : List Answer) × (sink.new.items ≡ sink.old.items ++ answers)
-        × Headline (order_of K.name K.cmp) (S.facts store) (S.facts result.1) ops.now answers) }
-    // Over damaged tables it is the headline of each undamaged directory from which they may come.
-    ensures over_damage { OnOk result.0 ((answers : List Answer) × (sink.new.items ≡ sink.old.items ++ answers)
-        × OverDamage (order_of K.name K.cmp) (S.facts store) (S.facts result.1) ops.now answers) }
-    // A process crash at any moment of it leaves what the commands that were answered by then had
-    // written.
-    ensures stops { OnOk result.0 ((answers : List Answer) × (sink.new.items ≡ sink.old.items ++ answers)
-        × StopsRun (order_of K.name K.cmp) (S.facts store) (S.facts result.1) ops.now answers) }
-    // A power loss leaves a prefix of that, if the files at its begin are durable.
-    ensures loses { OnOk result.0 ((answers : List Answer) × (sink.new.items ≡ sink.old.items ++ answers)
-        × LosesRun (order_of K.name K.cmp) (S.facts store) (S.facts result.1) ops.now answers) }
+    ensures promised { OnOk result.0 ((answers : List Answer) × (sink.new.items ≡ sink.old.items ++ answers)
+        × Promised (order_of K.name K.cmp) (S.facts store) (S.facts result.1) ops.now answers) }
     ensures refused { OnErr result.0 ((sink.new.items ≡ sink.old.items) × LeavesStore (S.facts store) (S.facts result.1)) }
     ensures memory { IfErr result.0 (λ error. error ≡ OutOfMemory) }
     ensures faithful { IsTrue (S.facts result.1).faithful → IsTrue (S.facts store).faithful }
