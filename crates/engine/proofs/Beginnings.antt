@@ -1,5 +1,6 @@
 -- That there is a first machine.
-use Rattle.std.proofs.Common.{◌≡◌, ℕ, ◌+◌, ◌<◌, ◌≤◌, ◌^◌, max, Bool, false, List, [], ◌∷◌, ◌++◌, Contains, length, sum_by, Some, None, inl, inr, refl, sym, ◌∙◌, subst, arith}
+use Rattle.std.proofs.Common.{◌≡◌, ℕ, ◌+◌, ◌<◌, ◌≤◌, ◌^◌, max, Bool, true, false, List, [], ◌∷◌, ◌++◌, Contains, length, sum_by, Some, None, inl, inr, refl, sym, ◌∙◌, subst, arith}
+use mathlib.Core.Bool.{true≢false}
 use Rattle.std.specs.List.{AllByRecursion}
 use Rattle.std.specs.Ordering.{nat_cmp}
 use Rattle.std.specs.Cmp.Lexicographic.{slice_cmp}
@@ -26,8 +27,9 @@ use Rattle.recover.specs.Directory.{Directory, IsConsistent, IsDirectory, IsEmpt
 use Rattle.recover.specs.internal.Laws.{OneManifestLaw}
 use Rattle.recover.specs.Numbers.{number_of, NamesBelow, IsFree}
 use Rattle.recover.specs.internal.Parts.{highest_in}
-use Rattle.machine.specs.Machine.{Machine, entry_weight}
+use Rattle.machine.specs.Machine.{Machine, current, entry_weight}
 use Rattle.recover.specs.Limits.{IsWithinLimits}
+use Rattle.engine.specs.FromFiles.{FirstOfMapLaw}
 use Rattle.engine.specs.Headline.{IsFirst, FirstLaw}
 use Rattle.engine.specs.Origins.{ComesFrom}
 use Rattle.engine.proofs.DistinctViews.{map_of, view_of}
@@ -138,6 +140,32 @@ there_is_one distinct one order facts entries used over_limit damaged total (inr
     let seen = subst (λ (es : List Entry). IsView es (used_in h.0) (map_of (entries_in h.0) (used_in h.0))) (sym h.2) view in
     first order facts entries (map_of (entries_in h.0) (used_in h.0)) used free.0 over_limit damaged (inr h)
     (subst (λ (n : ℕ). IsView entries n (map_of (entries_in h.0) (used_in h.0))) (sym h.3) seen) free.1 within
+
+-- the same of a map that the directory shows
+first_of_map : (order : Order) (facts : Facts) (entries : List Entry) (map : Contents) (used numbers : ℕ) → IsDirectory order facts.files entries used → IsView entries used map → IsFree order facts.files numbers
+    → (m : Machine) × IsFirst order facts m × (m.damaged ≡ false) × (current m ≡ map)
+first_of_map order facts entries map used numbers directory view free = (
+  begun facts entries map used numbers true false,
+  record {
+    holds = record { entries = entries; directory = directory; view = view };
+    bounds = record { made = refl; numbers = free; limits = λ is. absurd (true≢false is) };
+    accepted = (refl, refl, refl);
+    closed = (refl, refl, refl, refl);
+    ids = (refl, refl);
+    counts = (refl, refl);
+    size = (refl, refl);
+  },
+  refl,
+  refl,
+)
+
+pub there_is_one_of_map : OneManifestLaw → FirstOfMapLaw
+there_is_one_of_map one order facts map shows =
+    let free : (numbers : ℕ) × IsFree order facts.files numbers = elim shows.directory [
+      | inl h ↦ (2 ^ 64, free_of_empty order facts.files h.0)
+      | inr h ↦ some_free order facts.files h.0 one h.1
+    ] in
+    first_of_map order facts shows.entries map shows.used free.0 shows.directory shows.view free.1
 
 -- ---- files and themselves
 

@@ -11,11 +11,12 @@ use Rattle.machine.specs.Machine.{Machine, after_batch, after_batches, current}
 use Rattle.machine.specs.Access.{accepted}
 use Rattle.machine.specs.Lifetime.{Closed}
 use Rattle.machine.specs.declared.command.Answer.TheVariants.{Done, Refused}
-use Rattle.engine.specs.internal.Bridges.{EndsLaw, StartsLaw}
+use Rattle.engine.specs.FromFiles.{EndsEachLaw, EndsLaw, StartsEachLaw, StartsLaw}
 use Rattle.engine.specs.internal.Directory.{MeansCurrent, MeansWith, IsAtRest}
 use Rattle.directory_writes.specs.Differing.{with_files}
 use Rattle.engine.specs.Headline.{Bounds, Holds, HoldsAccepted, IsFirst, IsLast}
 use Rattle.engine.specs.Origins.{ComesFrom}
+use Rattle.engine.proofs.Beginnings.{comes_from_itself}
 
 pushed : (map : Contents) (batches : List (List Operation)) (batch : List Operation) → after_batches map (batches ++ batch ∷ []) ≡ after_batch (after_batches map batches) batch
 pushed map [] batch = refl
@@ -71,7 +72,7 @@ unclosed order files ended last is rest =
 undone : (e : DbError) (P : Type 0) → (Done ≡ Refused e) × P → ⊥
 undone e P h = let is = h.0 in absurd (cc)
 
-pub ends_last : EndsLaw
+pub ends_last : EndsEachLaw
 ends_last order facts given ended last (inl h) stands =
     subst (λ (m : Machine). Lasts order facts m) h.1 (lasts order facts last stands.rest (let is = stands.counts.failures in omega arith) stands.counts.denials)
 ends_last order facts given ended last (inr h) stands =
@@ -82,7 +83,7 @@ ends_last order facts given ended last (inr h) stands =
 -- ---- the first machine
 
 -- of a directory from which the files may come
-pub starts_first : StartsLaw
+pub starts_first : StartsEachLaw
 starts_first order facts ideal first from is =
     let means : MeansCurrent order ideal first = record {
       entries = is.holds.entries;
@@ -119,3 +120,11 @@ last_itself order facts ideal m same is = record {
   failures = is.failures;
   denials = is.denials;
 }
+
+pub starts_itself : StartsLaw
+starts_itself order facts first undamaged is = starts_first order facts facts.files first (comes_from_itself order first.damaged facts.files) (first_itself order facts first is)
+
+pub ends_itself : EndsLaw
+ends_itself order facts given ended last undamaged h stands =
+    let end = ends_last order facts given ended last h stands in
+    last_itself order facts end.0 ended (end.1.undamaged undamaged) end.2

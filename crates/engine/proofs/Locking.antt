@@ -3,7 +3,7 @@
 use Rattle.std.proofs.Common.{Bool, true, false, cond, List, ℕ, [], IsSome, is_some, ◌≡◌, ◌≢◌, ◌⊎◌, ◌<◌, ◌≤◌, ◌+◌, ap, sym, ◌∙◌, Result, Ok, Err, IsTrue, OnOk, OnErr, inl, inr, refl, arith}
 use Rattle.std.specs.FinMap.{get, contains_key, insert}
 use Rattle.coding.specs.declared.error.DbError.{DbError}
-use Rattle.coding.specs.declared.error.DbError.TheVariants.{Io}
+use Rattle.coding.specs.declared.error.DbError.TheVariants.{Io, OutOfMemory}
 use Rattle.store.specs.Files.{Facts, Files, Synced, MayLock, lock_name}
 use Rattle.store.specs.Calls.{Counts}
 use Rattle.store.specs.declared.error.StoreError.{StoreError}
@@ -13,8 +13,9 @@ use Rattle.edits.specs.declared.names.FileName.TheVariants.{Current, Lock}
 use Rattle.recover.proofs.NamedFiles.{get_other, get_same}
 use Rattle.opening.specs.internal.Calls.{TakesLock}
 use Rattle.opening.specs.Durable.{IsForeign, KeepsForeign, LeavesFile, LeavesDurable}
+use Rattle.opening.specs.internal.Begun.{IsUnwritten}
 use Rattle.opening.specs.internal.Durable.{IsSpared, Spares}
-use Rattle.engine.specs.Touching.{OpensStore, Frees, told_failures}
+use Rattle.engine.specs.Touching.{OpensStore, Frees, LeavesRefused, told_failures}
 use Rattle.engine.proofs.OpenLock.{OnlyLock, may_lock_only}
 use Rattle.opening.proofs.AfterReading.{behind_durable, done_durable, left_by, spared_same}
 use Rattle.opening.proofs.Reopening.{files_apart}
@@ -42,6 +43,24 @@ foreign_locked old mid new taken f kept name is =
     let a = foreign_asked {r = Ok tt} old mid taken f name is in
     let b = kept name (foreign_spared name is) in
     (b.0 ∙ a.0, b.1 ∙ a.1)
+
+-- ---- files that a refused open leaves alone
+
+made_apart : (b : Bool) (files : Files) (name : List ℕ) → name ≢ lock_name → get (cond b files (insert files lock_name [])) name ≡ get files name
+made_apart true files name is = refl
+made_apart false files name is = get_other files lock_name [] name is
+
+may_lock_apart : (old new : Files) → MayLock old new → (name : List ℕ) → name ≢ lock_name → get new name ≡ get old name
+may_lock_apart old new (inl same) name is = ap (λ (f : Files). get f name) same
+may_lock_apart old new (inr made) name is = ap (λ (f : Files). get f name) made ∙ made_apart (contains_key old lock_name) old name is
+
+asked_unwritten : {r : Result (Unit {0}) DbError} (old new : Facts) (e : DbError) → TakesLock old new r → IsTrue new.faithful → LeavesRefused old new e
+asked_unwritten old new e taken f = inr (λ name is. may_lock_apart old.files new.files (taken.files f) name is)
+
+unwritten_locked : (old mid new last : Facts) (e : DbError) → TakesLock old mid (Ok tt) → IsTrue mid.faithful → IsTrue new.faithful → IsUnwritten e mid new → last.files ≡ new.files → LeavesRefused old last e
+unwritten_locked old mid new last e taken f k (inl same) files =
+    inr (λ name is. ap (λ (fs : Files). get fs name) (files ∙ same k) ∙ may_lock_apart old.files mid.files (taken.files f) name is)
+unwritten_locked old mid new last e taken f k (inr met) files = inl met
 
 -- ---- the lock's file
 
@@ -87,6 +106,7 @@ unlocked_open old new e taken = record {
   lock_file = record { there = λ f. tt; stays = λ f. left_asked {r = Err e} old new taken f };
   durable = record { ok = λ f. tt; err = λ f. inl (left_by_lock {r = Err e} old new taken f) };
   foreign = λ f. foreign_asked {r = Err e} old new taken f;
+  unwritten = λ f. asked_unwritten {r = Err e} old new e taken f;
 }
 
 -- it was, and the open was done
@@ -96,6 +116,7 @@ locked_open {T} old mid new x taken same back d kept = record {
   lock_file = record { there = λ f. there_locked old mid new taken (back f) (kept f); stays = λ f. left_locked old mid new taken (back f) (kept f) };
   durable = done_durable {T = T} {U = T} old mid new x x d;
   foreign = λ f. foreign_locked old mid new taken (back f) (kept f);
+  unwritten = λ f. tt;
 }
 
 -- with another value
@@ -105,6 +126,17 @@ opened_as old new x y opens = record {
   lock_file = record { there = opens.lock_file.there; stays = opens.lock_file.stays };
   durable = record { ok = opens.durable.ok; err = λ f. tt };
   foreign = opens.foreign;
+  unwritten = λ f. tt;
+}
+
+-- or none was, with a value of another type
+pub refused_as : {T U : Type 0} (old new : Facts) (e : DbError) → OpensStore {T = T} old new (Err e) → OpensStore {T = U} old new (Err e)
+refused_as old new e opens = record {
+  locks = record { locked = tt; freed = opens.locks.freed };
+  lock_file = record { there = λ f. tt; stays = opens.lock_file.stays };
+  durable = record { ok = λ f. tt; err = opens.durable.err };
+  foreign = opens.foreign;
+  unwritten = opens.unwritten;
 }
 
 freed_by : (r : Result (Unit {0}) StoreError) (old new : Facts) → Counts old new r → OnOk r (new.locked ≡ false) → r ≢ Err store_error.Missing → r ≢ Err store_error.Memory → new.locked ≡ true → old.failures < new.failures
@@ -123,9 +155,9 @@ told_most _ old new rise io = omega (arith, rise)
 
 -- it was, and released
 pub given_back : {T : Type 0} (old mid new last : Facts) (e : DbError) (r : Result (Unit {0}) StoreError) → TakesLock old mid (Ok tt) → mid.failures ≤ new.failures → (e ≡ Io → mid.failures < new.failures) → (IsTrue new.faithful → IsTrue mid.faithful) → LeavesDurable {T = T} mid new (Err e) → (IsTrue new.faithful → Spares mid new)
-    → Counts new last r → (IsTrue last.faithful → last.files ≡ new.files) → (IsTrue last.faithful → last.synced ≡ new.synced) → OnOk r (last.locked ≡ false) → r ≢ Err store_error.Missing → r ≢ Err store_error.Memory
+    → IsUnwritten e mid new → Counts new last r → (IsTrue last.faithful → last.files ≡ new.files) → (IsTrue last.faithful → last.synced ≡ new.synced) → OnOk r (last.locked ≡ false) → r ≢ Err store_error.Missing → r ≢ Err store_error.Memory
     → OpensStore {T = T} old last (Err e)
-given_back {T} old mid new last e r taken rise io back d spared counts files synced free missing memory =
+given_back {T} old mid new last e r taken rise io back d spared unwritten counts files synced free missing memory =
     let left : IsTrue last.faithful → Spares mid last = λ f name is.
     let first = spared (counts.faithful f) name is in
     let after = spared_same new last (files f) (synced f) name is in
@@ -148,6 +180,7 @@ given_back {T} old mid new last e r taken rise io back d spared counts files syn
             ];
       };
       foreign = λ f. foreign_locked old mid last taken (back (counts.faithful f)) (left f);
+      unwritten = λ f. unwritten_locked old mid new last e taken (back (counts.faithful f)) (counts.faithful f) unwritten (files f);
     }
 
 -- where no memory was found no failure was counted, unless the lock wasn't released

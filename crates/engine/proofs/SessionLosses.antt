@@ -96,7 +96,7 @@ module _ {S K : Type 0} {g : _} (order : Order) (facts : S → Facts) (old new :
         | inl idle ↦ serves_unidle n serves.0 (serves.1 ∙ whole) idle
         | inr some ↦
             let kept = subst (λ (o : Option (OpenDb K g)). KeptOver after o Done) some.1 h.kept faithful in
-            let fresh = subst (λ (o : Option (OpenDb K g)). FreshOver o Done) some.1 h.fresh in
+            let fresh = subst (λ (o : Option (OpenDb K g)). FreshOver o Done) some.1 h.fresh.fresh in
             let tidy = subst (λ (o : Option (OpenDb K g)). OpenedTidy (seen_in facts old) (seen_in facts new) o Done) some.1 h.works faithful in
             let stands = subst (λ (o : Option (OpenDb K g)). StandsOver order (seen_in facts new) (ids_of new) o n) some.1 later in
             subst (λ (o : Option (OpenDb K g)). GoesOn order before after o m n (Open mode) Done spares) (sym some.1)

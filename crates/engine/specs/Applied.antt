@@ -39,7 +39,8 @@ use Rattle.machine.specs.Causes.{Status, cause_of}
 use Rattle.engine.specs.Opened.{OpenedTidy}
 use Rattle.engine.specs.Causes.{IsCaused, IsCausedIn, open_status, status_in}
 use Rattle.engine.specs.Losses.{LosesBy}
-use Rattle.engine.specs.Reopening.{FreshBy, KeepsLogsBy, LosesOnBy, SessionKeepsFound}
+use Rattle.engine.specs.OpenedWith.{FreshBy}
+use Rattle.engine.specs.Reopening.{KeepsLogsBy, LosesOnBy, SessionKeepsFound}
 use Rattle.engine.specs.Stops.{StopsBy}
 use Rattle.store.specs.Losses.{SyncsBeginnings}
 use Rattle.engine.specs.Touching.{SyncsLog, LeavesStore, CloseTouches, Touches}

@@ -124,10 +124,6 @@ abbrev pub FreshOver : {K : Type 0} {g : _} → Option (OpenDb K g) → Answer �
 FreshOver (Some db) Done = IsFresh db
 FreshOver state answer = Unit {0}
 
-abbrev pub FreshBy : {S K : Type 0} {g : _} → Op → Session S K g → Answer → Type 0
-FreshBy (Open mode) new answer = FreshOver (open_in new) answer
-FreshBy _ new answer = Unit {0}
-
 -- what is said of a command
 abbrev pub LosesOnBy : {S K : Type 0} {g : _} → Op → Order → (S → Facts) → Session S K g → Session S K g → Type 0
 LosesOnBy (Open mode) order facts old new = SessionLosesOn order facts old new

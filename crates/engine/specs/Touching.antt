@@ -4,7 +4,7 @@ use Rattle.std.specs.List.{AllByRecursion}
 use Rattle.std.specs.FinMap.{get}
 use Rattle.batch.specs.declared.operation.Operation.{Operation}
 use Rattle.coding.specs.declared.error.DbError.{DbError}
-use Rattle.coding.specs.declared.error.DbError.TheVariants.{Io}
+use Rattle.coding.specs.declared.error.DbError.TheVariants.{Io, OutOfMemory}
 use Rattle.store.specs.Calls.{FailsNoWrite, KeepsCalls}
 use Rattle.store.specs.Files.{Facts, lock_name}
 use Rattle.machine.specs.declared.command.Op.{Op}
@@ -94,13 +94,20 @@ pub record ClosesStore (old new : Facts) : Type 0 where
   pub freed : Frees old new
   pub calls : KeepsCalls old new
 
+-- An open that is refused writes no file but `LOCK`, nor removes one, unless it ran out of memory
+-- or the store failed.
+abbrev pub LeavesRefused : Facts → Facts → DbError → Type 0
+LeavesRefused old new e = ((e ≡ OutOfMemory) ⊎ (e ≡ Io))
+    ⊎ ((name : List ℕ) → name ≢ lock_name → get new.files name ≡ get old.files name)
+
 -- An open leaves `CURRENT` and its MANIFEST synced whole whenever it changed them, and leaves the
--- files of other programs alone, also if it fails.
+-- files of other programs alone, also if it fails. One that is refused leaves all files.
 pub record OpensStore {T : Type 0} (old new : Facts) (result : Result T DbError) : Type 0 where
   pub locks : Locks old new result
   pub lock_file : HasLockFile old new result
   pub durable : LeavesDurable old new result
   pub foreign : IsTrue new.faithful → KeepsForeign old new
+  pub unwritten : IsTrue new.faithful → IfErr result (LeavesRefused old new)
 
 abbrev pub OpenTouches : {K : Type 0} {g : _} → Option (OpenDb K g) → Facts → Facts → Answer → Type 0
 OpenTouches None old new answer = OpensStore old new (unit_result answer)

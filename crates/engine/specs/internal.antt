@@ -1,7 +1,6 @@
 -- Invariants and plumbing: what is below here need not be believed, since no caller builds on it
 -- but by its name.
 pub mod Accounted
-pub mod Bridges
 pub mod Compacting
 pub mod Directory
 pub mod Gathering

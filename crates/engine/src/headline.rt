@@ -4,12 +4,12 @@ ghost use Rattle.std.specs.Prelude.{◌≡◌, ◌++◌, Bool, List, IsTrue, OnO
 ghost use Rattle.coding.specs.declared.error.DbError.TheVariants.{OutOfMemory};
 ghost use Rattle.ikey.specs.Orders.{Order, order_of};
 ghost use Rattle.machine.specs.declared.command.Answer.{Answer};
+ghost use Rattle.engine.specs.FromFiles.{EndsEachLaw, EndsLaw, FirstOfMapLaw, StartsEachLaw, StartsLaw};
 ghost use Rattle.engine.specs.Headline.{FirstLaw};
 ghost use Rattle.engine.specs.Origins.{ComesFrom};
 ghost use Rattle.engine.specs.Promised.{Promised};
 ghost use Rattle.store.specs.Files.{Files};
 ghost use Rattle.engine.specs.Touching.{LeavesStore};
-ghost use Rattle.engine.specs.internal.Bridges.{StartsLaw, EndsLaw};
 
 use crate::options::Options;
 use crate::session::Session;
@@ -23,7 +23,9 @@ use store::Store;
 /// Proves that each directory that is empty or consistent has a first machine, and so has each that
 /// `recover::check` finds good. Each directory has one that allows for damage.
 pub fn there_is_a_first()
-    ensures { FirstLaw }
+    ensures directory { FirstLaw }
+    // It may have each map that the directory shows.
+    ensures map { FirstOfMapLaw }
 {
     // Laws, for the proof alone.
     distinct_law();
@@ -35,14 +37,19 @@ pub fn files_come_from_themselves()
     ensures { (order : Order) (damaged : Bool) (files : Files) → ComesFrom order damaged files files }
 {}
 
-// Proves that a new session over these files may be in it.
-fn starts()
-    ensures { StartsLaw }
+/// Proves where the contracts of `Db` and `Session` begin: before the first open they stand for
+/// each first machine of their files.
+pub fn from_files()
+    ensures undamaged { StartsLaw }
+    // If tables may be damaged: of each directory from which the files may come.
+    ensures each { StartsEachLaw }
 {}
 
-// Proves that the files of a session that is closed are those of the machine at which it ended.
-fn ends()
-    ensures { EndsLaw }
+/// Proves where they end: the files of a database that was closed are those of the machine at which
+/// it ended.
+pub fn to_files()
+    ensures undamaged { EndsLaw }
+    ensures each { EndsEachLaw }
 {}
 
 /// Runs commands over a store in which no database is open, and appends their answers to `sink`. A
@@ -62,8 +69,8 @@ pub fn run_over<S: Store, K: KeyOrder>(
     ensures faithful { IsTrue (S.facts result.1).faithful → IsTrue (S.facts store).faithful }
 {
     // Laws, for the proof alone.
-    starts();
-    ends();
+    from_files();
+    to_files();
     let mut session: Session<S, K> = Session::new(alloc, store, options);
     let result = session.run(alloc, ops, sink);
     // A law, for the proof alone.

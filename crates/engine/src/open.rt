@@ -25,7 +25,7 @@ ghost use Rattle.opening.specs.internal.Opening.{IsContinued};
 ghost use Rattle.opening.specs.internal.Durable.{HasDurable, Spares};
 ghost use Rattle.opening.specs.Durable.{LeavesDurable};
 ghost use Rattle.opening.specs.Losses.{BeginsSpared, HaveNamesStayed};
-ghost use Rattle.opening.specs.internal.Begun.{BeginsSynced};
+ghost use Rattle.opening.specs.internal.Begun.{BeginsSynced, IsUnwritten};
 ghost use Rattle.opening.specs.internal.Renewing.{RenewsWhole};
 ghost use Rattle.engine.specs.Touching.{OpensStore};
 ghost use Rattle.opening.specs.Refusals.{IsMet};
@@ -68,6 +68,8 @@ pub fn open_store<K: KeyOrder, S: Store>(
         → Tells (order_of K.name K.cmp) (S.facts source.old.tables.store).files result }
     // All files are in use then, unless one couldn't be removed.
     ensures tidy { IfOk result (IsTidy (S.facts source.old.tables.store) (S.facts source.new.tables.store) source.new.memory) }
+    // So many blocks are kept as the options say.
+    ensures cached { OnOk result (source.new.tables.blocks.capacity ≡ options.now.cache_blocks) }
     // A process crash in its middle leaves files that stand for what they did.
     ensures stops { IsTrue (S.facts source.new.tables.store).faithful → (ids : Ids) (m : Machine)
         → m.damaged ≡ false → StandsClosed (order_of K.name K.cmp) (S.facts source.old.tables.store) ids m
@@ -131,9 +133,12 @@ fn open_and_clean<K: KeyOrder, S: Store>(
     ensures durable { LeavesDurable (S.facts source.old.tables.store) (S.facts source.new.tables.store) result }
     ensures spared { IsTrue (S.facts source.new.tables.store).faithful
         → Spares (S.facts source.old.tables.store) (S.facts source.new.tables.store) }
+    ensures unwritten { IfErr result
+        (λ e. IsUnwritten e (S.facts source.old.tables.store) (S.facts source.new.tables.store)) }
     ensures tells { IsTrue (S.facts source.new.tables.store).faithful
         → Tells (order_of K.name K.cmp) (S.facts source.old.tables.store).files result }
     ensures tidy { IfOk result (IsTidy (S.facts source.old.tables.store) (S.facts source.new.tables.store) source.new.memory) }
+    ensures cached { OnOk result (source.new.tables.blocks.capacity ≡ options.now.cache_blocks) }
     ensures stops { IsTrue (S.facts source.new.tables.store).faithful → (ids : Ids) (m : Machine)
         → m.damaged ≡ false → Rests (order_of K.name K.cmp) (S.facts source.old.tables.store) ids m
         → LeavesOnly (S.facts source.old.tables.store) (S.facts source.new.tables.store) (λ files. MeansAccepted (order_of K.name K.cmp) files m) }
@@ -203,7 +208,10 @@ fn open_locked<K: KeyOrder, S: Store>(
         → HasDurable state.directory.manifest.number (S.facts source.new.tables.store)) }
     ensures spared { IsTrue (S.facts source.new.tables.store).faithful
         → Spares (S.facts source.old.tables.store) (S.facts source.new.tables.store) }
+    ensures unwritten { IfErr result
+        (λ e. IsUnwritten e (S.facts source.old.tables.store) (S.facts source.new.tables.store)) }
     ensures whole { IfOk result (λ state. state.broken ≡ false) }
+    ensures cached { OnOk result (source.new.tables.blocks.capacity ≡ options.now.cache_blocks) }
     ensures tells { IsTrue (S.facts source.new.tables.store).faithful
         → Tells (order_of K.name K.cmp) (S.facts source.old.tables.store).files result }
     ensures stops { IsTrue (S.facts source.new.tables.store).faithful → (m : Machine)

@@ -122,6 +122,7 @@ impl<K: KeyOrder> DbState<K> {
         ensures unlisted { IsTrue (S.facts source.new.tables.store).faithful
             → OnErr result ((S.facts source.new.tables.store).files ≡ (S.facts source.old.tables.store).files) }
         ensures dropped { OnOk result (HasUsedMemory source.new.memory self.now.iterators) }
+        ensures blocks { source.new.tables.blocks ≡ source.old.tables.blocks }
         ensures complete { IfOk result (λ complete. IsTrue complete
             → (S.facts source.new.tables.store).failures ≡ (S.facts source.old.tables.store).failures) }
         ensures unfailed { IfOk result (λ complete. (S.facts source.new.tables.store).failures ≡

@@ -70,22 +70,22 @@ returns-clause-promised g c =
       run.1,
       record {
         headline = λ faithful ideal first from is.
-          let start = c.starts.ensures order old ideal first from is in
+          let start = c.from_files.ensures.each order old ideal first from is in
           let before = c.new-session.ensures.stands first start in
           let reached = run.3.moved (parted.faithful faithful) first before in
           let last = parted.moved faithful reached.0 reached.2 in
-          let end = c.ends.ensures order new _ reached.0 last.0 last.1 last.2 in
+          let end = c.to_files.ensures.each order new _ reached.0 last.0 last.1 last.2 in
           let still : reached.0.damaged ≡ first.damaged = run_flag order first reached.0 c.args.ops.now run.0 reached.1 in
           (reached.0, end.0, reached.1, subst (λ (b : Bool). ComesFrom order b new.files end.0) still end.1, end.2);
         stops = λ faithful first is undamaged.
-          let start = c.starts.ensures order old old.files first (comes_from_itself order first.damaged old.files) (first_itself order old first is) in
+          let start = c.from_files.ensures.each order old old.files first (comes_from_itself order first.damaged old.files) (first_itself order old first is) in
           let before = c.new-session.ensures.stands first start in
           let between = parted.faithful faithful in
           let closed = closes_calls (open_in ended) (facts (store_of ended)) new touches faithful in
           subst (λ (store : _). StopsEach order first (facts store) new c.args.ops.now run.0) c.new-session.ensures.kept
           (stops_each order facts c.args.ops.now run.0 begun ended new applied between closed.0 closed.1 first undamaged before);
         loses = λ faithful lock device first is undamaged.
-          let start = c.starts.ensures order old old.files first (comes_from_itself order first.damaged old.files) (first_itself order old first is) in
+          let start = c.from_files.ensures.each order old old.files first (comes_from_itself order first.damaged old.files) (first_itself order old first is) in
           let before = c.new-session.ensures.stands first start in
           let between = parted.faithful faithful in
           let closed = closes_calls (open_in ended) (facts (store_of ended)) new touches faithful in

@@ -1,10 +1,12 @@
 use Rattle.ikey.specs.Orders.{order_of}
-use Rattle.std.proofs.Common.{◌≡◌, false, is_err, map, Result, Ok, Err, IsTrue, inl, inr, refl, sym, subst, ◌∙◌, arith, rules, string_bytes}
+use Rattle.std.proofs.Common.{◌≡◌, false, is_err, map, Result, Ok, Err, IfErr, IsTrue, inl, inr, refl, sym, ap, subst, ◌∙◌, arith, rules, string_bytes}
+use Rattle.cache.specs.Blocks.{BlockCache}
 use Rattle.coding.specs.declared.error.DbError.{DbError}
 use Rattle.coding.specs.declared.error.DbError.TheVariants.{OutOfMemory}
 use Rattle.store.specs.Files.{Facts, Files}
 use Rattle.store.specs.Stops.{LeavesOnly}
 use Rattle.opening.specs.Losses.{BeginsSpared, HaveNamesStayed}
+use Rattle.opening.specs.internal.Begun.{IsUnwritten}
 use Rattle.opening.specs.internal.Durable.{HasDurable, Spares}
 use Rattle.opening.specs.internal.Opening.{IsContinued}
 use Rattle.engine.specs.declared.ids.Ids.{Ids}
@@ -407,3 +409,25 @@ returns-then-lacks_memory-clause-loses_on g c f ids m undamaged r =
     opened_on order (old_in g behind) mid (record mid { facts = kept_in g behind }) (seen_of facts c.clean.new.source) db cleared (record cleared { memory = c.clean.new.source.memory }) c.args.mode
     back these.faithful (leads_in g behind test) (λ early. on_in g behind early m (means_whole order (old_in g behind).files m undamaged r.rest))
     (grown_sound (mid_in g behind) (kept_in g behind) (these.files (back f)) (these.keeps (back f)) c.synced_law.ensures) o.renewed (λ early. let each = k.each early in (each.0, each.1)) k.same.0 o.whole c.clean.ensures.only c.clean.ensures.removes f ids m undamaged r
+
+-- ---- what a refusal leaves
+
+pub returns-in_err-state-clause-unwritten : goal.returns-in_err-state-clause-unwritten
+returns-in_err-state-clause-unwritten g c =
+    let facts = g.S.Store.facts in
+    let is : c.from_residual.result ≡ Err c.in_err-state.field-0.0 = search rules in
+    subst (λ (r : Result (DbState _ _) DbError). IfErr r (λ e. IsUnwritten e (facts c.args.source.now.tables.store) (facts c.open_locked.new.source.tables.store))) (sym is) c.in_err-state.ensures.unwritten
+
+pub returns-then-is_err-clause-unwritten : goal.returns-then-is_err-clause-unwritten
+returns-then-is_err-clause-unwritten g c = inr (inr refl)
+
+pub returns-then-lacks_memory-clause-unwritten : goal.returns-then-lacks_memory-clause-unwritten
+returns-then-lacks_memory-clause-unwritten g c = inr (inl refl)
+
+-- ---- what is kept of its tables
+
+pub returns-in-Ok-clause-cached : goal.returns-in-Ok-clause-cached
+returns-in-Ok-clause-cached g c = ap (λ (blocks : BlockCache). blocks.capacity) c.clean.ensures.blocks ∙ c.in_ok-state.ensures.cached
+
+pub returns-else-lacks_memory-clause-cached : goal.returns-else-lacks_memory-clause-cached
+returns-else-lacks_memory-clause-cached g c = ap (λ (blocks : BlockCache). blocks.capacity) c.clean.ensures.blocks ∙ c.in_ok-state.ensures.cached

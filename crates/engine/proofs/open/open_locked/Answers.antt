@@ -1,5 +1,5 @@
 use Rattle.ikey.specs.Orders.{order_of}
-use Rattle.std.proofs.Common.{◌≡◌, ◌⊎◌, inl, Result, Err, refl, sym, ap, subst, arith, rules}
+use Rattle.std.proofs.Common.{◌≡◌, ◌⊎◌, inl, inr, Result, Err, IfErr, refl, sym, ap, subst, ◌∙◌, arith, rules}
 use Rattle.coding.specs.declared.error.DbError.{DbError}
 use Rattle.coding.specs.declared.error.DbError.TheVariants.{OutOfMemory}
 use Rattle.table_access.specs.Tables.{seen}
@@ -15,7 +15,7 @@ use Rattle.edits.specs.Names.{name_of}
 use Rattle.edits.specs.declared.names.FileName.TheVariants.{Current}
 use Rattle.opening.specs.Durable.{IsDurable, LeavesDurable, LeavesFile}
 use Rattle.opening.specs.Losses.{HaveNamesStayed}
-use Rattle.opening.specs.internal.Begun.{BeginsSynced}
+use Rattle.opening.specs.internal.Begun.{BeginsSynced, IsUnwritten}
 use Rattle.opening.specs.internal.Durable.{Spares}
 use Rattle.opening.specs.internal.Opening.{IsContinued}
 use Rattle.opening.proofs.BegunSteps.{continued_itself}
@@ -188,3 +188,25 @@ pub returns-clause-renewed : goal.returns-clause-renewed
 returns-clause-renewed g c = λ f.
     let order = order_of g.K.KeyOrder.name g.K.KeyOrder.cmp in
     subst (λ s. RenewsWhole order (g.S.Store.facts s) (g.S.Store.facts c.begin-2.new.store) c.in_ok-begun.begun.log c.in_ok-begun.begun.directory) c.in_ok-begin.ensures.store (c.in_ok-begun.ensures.renewed f)
+
+-- ---- what a refusal leaves
+
+pub returns-in_err-begin-clause-unwritten : goal.returns-in_err-begin-clause-unwritten
+returns-in_err-begin-clause-unwritten g c =
+    let old = g.S.Store.facts c.args.source.now.tables.store in
+    let new = g.S.Store.facts c.begin.new.self.store in
+    let is : c.from_residual.result ≡ Err OutOfMemory = search rules in
+    subst (λ (r : Result (DbState _ _) DbError). IfErr r (λ e. IsUnwritten e old new)) (sym is) (inr (inl refl))
+
+pub returns-in_err-begun-clause-unwritten : goal.returns-in_err-begun-clause-unwritten
+returns-in_err-begun-clause-unwritten g c =
+    let new = g.S.Store.facts c.begin-2.new.store in
+    let e = c.in_err-begun.field-0.0 in
+    let is : c.from_residual-in_err-begun.result ≡ Err e = search rules in
+    subst (λ (r : Result (DbState _ _) DbError). IfErr r (λ x. IsUnwritten x (g.S.Store.facts c.args.source.now.tables.store) new)) (sym is)
+    (subst (λ s. IsUnwritten e (g.S.Store.facts s) new) c.in_ok-begin.ensures.store c.in_err-begun.ensures.unwritten)
+
+-- ---- what is kept of its tables
+
+pub returns-clause-cached : goal.returns-clause-cached
+returns-clause-cached g c = c.in_ok-begin.ensures.capacity.1 ∙ c.cache_blocks.ensures

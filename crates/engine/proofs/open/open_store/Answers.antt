@@ -80,7 +80,7 @@ pub returns-in-Err-clause-touches : goal.returns-in-Err-clause-touches
 returns-in-Err-clause-touches g c =
     given_back {T = DbState _ _} (g.S.Store.facts c.args.source.now.tables.store) (g.S.Store.facts c.take_lock.new.store) (g.S.Store.facts c.open_and_clean.new.source.tables.store) (g.S.Store.facts c.unlock.new.self) c.in-Err.error c.unlock.result
     c.in_ok-take_lock.ensures.lock c.in-Err.ensures.outcome.failures (λ is. c.in-Err.ensures.outcome.io (λ i. Err (is i))) (c.in-Err.ensures.step no_ids).faithful c.in-Err.ensures.durable c.in-Err.ensures.spared
-    c.unlock.ensures.counts c.unlock.ensures.same c.unlock.ensures.synced c.unlock.ensures.free c.unlock.ensures.missing c.unlock.ensures.memory
+    c.in-Err.ensures.unwritten c.unlock.ensures.counts c.unlock.ensures.same c.unlock.ensures.synced c.unlock.ensures.free c.unlock.ensures.missing c.unlock.ensures.memory
 
 -- ---- what a process crash leaves
 
