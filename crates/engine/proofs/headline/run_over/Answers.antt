@@ -63,43 +63,42 @@ returns-clause-promised g c =
     let touches = c.into_store.ensures.touches in
     on_both c.run-result.result
     (λ run each.
-        let same : each.0 ≡ run.0 = append_cancel_left c.args.sink.now.items each.0 run.0 (sym each.1 ∙ run.1) in
-        let applied = subst (λ (answers : List Answer). AllApplied order facts c.args.ops.now answers begun ended) same each.2 in
-        (
+    let same : each.0 ≡ run.0 = append_cancel_left c.args.sink.now.items each.0 run.0 (sym each.1 ∙ run.1) in
+    let applied = subst (λ (answers : List Answer). AllApplied order facts c.args.ops.now answers begun ended) same each.2 in (
       run.0,
       run.1,
       record {
         headline = λ faithful ideal first from is.
-          let start = c.from_files.ensures.each order old ideal first from is in
-          let before = c.new-session.ensures.stands first start in
-          let reached = run.3.moved (parted.faithful faithful) first before in
-          let last = parted.moved faithful reached.0 reached.2 in
-          let end = c.to_files.ensures.each order new _ reached.0 last.0 last.1 last.2 in
-          let still : reached.0.damaged ≡ first.damaged = run_flag order first reached.0 c.args.ops.now run.0 reached.1 in
-          (reached.0, end.0, reached.1, subst (λ (b : Bool). ComesFrom order b new.files end.0) still end.1, end.2);
+            let start = c.from_files.ensures.each order old ideal first from is in
+            let before = c.new-session.ensures.stands first start in
+            let reached = run.3.moved (parted.faithful faithful) first before in
+            let last = parted.moved faithful reached.0 reached.2 in
+            let end = c.to_files.ensures.each order new _ reached.0 last.0 last.1 last.2 in
+            let still : reached.0.damaged ≡ first.damaged = run_flag order first reached.0 c.args.ops.now run.0 reached.1 in
+            (reached.0, end.0, reached.1, subst (λ (b : Bool). ComesFrom order b new.files end.0) still end.1, end.2);
         stops = λ faithful first is undamaged.
-          let start = c.from_files.ensures.each order old old.files first (comes_from_itself order first.damaged old.files) (first_itself order old first is) in
-          let before = c.new-session.ensures.stands first start in
-          let between = parted.faithful faithful in
-          let closed = closes_calls (open_in ended) (facts (store_of ended)) new touches faithful in
-          subst (λ (store : _). StopsEach order first (facts store) new c.args.ops.now run.0) c.new-session.ensures.kept
-          (stops_each order facts c.args.ops.now run.0 begun ended new applied between closed.0 closed.1 first undamaged before);
+            let start = c.from_files.ensures.each order old old.files first (comes_from_itself order first.damaged old.files) (first_itself order old first is) in
+            let before = c.new-session.ensures.stands first start in
+            let between = parted.faithful faithful in
+            let closed = closes_calls (open_in ended) (facts (store_of ended)) new touches faithful in
+            subst (λ (store : _). StopsEach order first (facts store) new c.args.ops.now run.0) c.new-session.ensures.kept
+            (stops_each order facts c.args.ops.now run.0 begun ended new applied between closed.0 closed.1 first undamaged before);
         loses = λ faithful lock device first is undamaged.
-          let start = c.from_files.ensures.each order old old.files first (comes_from_itself order first.damaged old.files) (first_itself order old first is) in
-          let before = c.new-session.ensures.stands first start in
-          let between = parted.faithful faithful in
-          let closed = closes_calls (open_in ended) (facts (store_of ended)) new touches faithful in
-          let synced = closes_synced (open_in ended) (facts (store_of ended)) new touches faithful in
-          let sound = subst (λ (store : _). SyncsBeginnings (facts store)) c.store.ensures c.synced_law.ensures in
-          let stood = run.3.moved between first before in
-          let shut = parted.moved faithful stood.0 stood.2 in
-          let failures : (facts (store_of ended)).failures ≤ new.failures =
-          (let one = counted_over order (seen_in facts ended) (ids_of ended) (open_in ended) stood.0 stood.2 in let two = shut.2.counts.failures in let least = ended_failures stood.0 shut.0 shut.1 in omega (arith, one, two, least)) in
-          let spares : Files → Type 0 = λ lost. Unit {0} in
-          let begin = subst (λ (store : _). Between order (facts store) (open_in begun) first spares) (sym c.new-session.ensures.kept)
-          (subst (λ (o : Option (OpenDb _ _)). Between order old o first spares) (sym c.new-session.ensures.shut) (closed_begin order old first device is lock)) in
-          subst (λ (store : _). LosesEach order spares first (facts store) new c.args.ops.now run.0) c.new-session.ensures.kept
-          (loses_each order facts c.args.ops.now run.0 begun ended new applied between sound closed.0 closed.1 synced failures first undamaged before spares begin);
+            let start = c.from_files.ensures.each order old old.files first (comes_from_itself order first.damaged old.files) (first_itself order old first is) in
+            let before = c.new-session.ensures.stands first start in
+            let between = parted.faithful faithful in
+            let closed = closes_calls (open_in ended) (facts (store_of ended)) new touches faithful in
+            let synced = closes_synced (open_in ended) (facts (store_of ended)) new touches faithful in
+            let sound = subst (λ (store : _). SyncsBeginnings (facts store)) c.store.ensures c.synced_law.ensures in
+            let stood = run.3.moved between first before in
+            let shut = parted.moved faithful stood.0 stood.2 in
+            let failures : (facts (store_of ended)).failures ≤ new.failures =
+            (let one = counted_over order (seen_in facts ended) (ids_of ended) (open_in ended) stood.0 stood.2 in let two = shut.2.counts.failures in let least = ended_failures stood.0 shut.0 shut.1 in omega (arith, one, two, least)) in
+            let spares : Files → Type 0 = λ lost. Unit {0} in
+            let begin = subst (λ (store : _). Between order (facts store) (open_in begun) first spares) (sym c.new-session.ensures.kept)
+            (subst (λ (o : Option (OpenDb _ _)). Between order old o first spares) (sym c.new-session.ensures.shut) (closed_begin order old first device is lock)) in
+            subst (λ (store : _). LosesEach order spares first (facts store) new c.args.ops.now run.0) c.new-session.ensures.kept
+            (loses_each order facts c.args.ops.now run.0 begun ended new applied between sound closed.0 closed.1 synced failures first undamaged before spares begin);
       },
     ))
     c.run-result.ensures.run c.run-result.ensures.each
