@@ -1,5 +1,5 @@
 -- What a reader holds, as its contracts see it.
-use Rattle.std.specs.Prelude.{ℕ, List, IsTrue}
+use Rattle.std.specs.Prelude.{◌≡◌, ℕ, List, IsTrue}
 use Rattle.coding.specs.declared.error.DbError.{DbError}
 use Rattle.store.specs.Files.{Facts, Files}
 use Rattle.ikey.specs.Orders.{Order}
@@ -42,6 +42,11 @@ ShowsMap order facts reader map = Shows order (whole_of facts reader) (tables_of
 abbrev pub HoldsDirectory : {S K : Type 0} → Order → (S → Facts) → Files → Reader S K → Type 0
 HoldsDirectory order facts files reader = HoldsRead order files (whole_of facts reader) (tables_of reader)
 
+-- That is so after an open over these files, and its cache has room for so many blocks.
+pub record IsOpened {S K : Type 0} (order : Order) (facts : S → Facts) (files : Files) (blocks : ℕ) (reader : Reader S K) : Type 0 where
+  pub directory : IsTrue (facts_of facts reader).faithful → HoldsDirectory order facts files reader
+  pub cache : reader.source.tables.blocks.capacity ≡ blocks
+
 -- as far as the blocks of its tables tell, it may show this one
 abbrev pub MayShowMap : {S K : Type 0} → Order → (S → Facts) → Reader S K → Contents → Type 0
 MayShowMap order facts reader map = MayShow order (whole_of facts reader) (tables_of reader) map
@@ -52,7 +57,8 @@ RefusesGet order facts old new e = RefusesRead order (tables_of old) (whole_of f
 
 -- While the store is faithful, a call leaves the map that is shown.
 abbrev pub KeepsMaps : {S K : Type 0} → Order → (S → Facts) → Reader S K → Reader S K → Type 0
-KeepsMaps order facts old new = IsTrue (facts_of facts new).faithful → (map : Contents) → ShowsMap order facts old map → ShowsMap order facts new map
+KeepsMaps order facts old new = IsTrue (facts_of facts new).faithful
+    → (map : Contents) → ShowsMap order facts old map → ShowsMap order facts new map
 
 -- And each that may be shown.
 abbrev pub KeepsMayMaps : {S K : Type 0} → Order → (S → Facts) → Reader S K → Reader S K → Type 0

@@ -1,6 +1,7 @@
 //! What a reader begins with.
 
-ghost use Rattle.std.specs.Prelude.{IfOk, IfErr, IsTrue};
+ghost use Rattle.std.specs.Prelude.{◌≡◌, IfOk, IfErr, IsTrue, OnOk};
+ghost use Rattle.std.specs.NonZero.{non_zero_usize_get};
 ghost use Rattle.ikey.specs.Orders.{order_of};
 ghost use Rattle.ikey.specs.Views.{Contents, IsView};
 ghost use Rattle.recover.specs.Directory.{Directory, IsConsistent, entries_in, used_in};
@@ -38,6 +39,7 @@ pub fn begin<K: KeyOrder, S: Store>(
     ensures shows { IfOk result (λ version. IsTrue (S.facts source.new.tables.store).faithful → (d : Directory) (map : Contents)
         → IsConsistent (order_of K.name K.cmp) (S.facts source.old.tables.store).files d → IsView (entries_in d) (used_in d) map
         → Shows (order_of K.name K.cmp) (whole_in S.facts source.new) version.value.tables map) }
+    ensures cached { OnOk result (source.new.tables.blocks.capacity ≡ non_zero_usize_get cache_blocks) }
     ensures refused { IfErr result (λ error. RefusesReader (order_of K.name K.cmp) error (S.facts source.old.tables.store) (S.facts source.new.tables.store)) }
 {
     // Laws, for the proof alone.

@@ -39,6 +39,7 @@ pub struct ReaderWalk<K: KeyOrder> {
 impl<S: Store, K: KeyOrder> Reader<S, K> {
     ghost use Rattle.std.specs.Prelude.{IsTrue, true, OnOk, IfOk, IfErr};
     ghost use Rattle.std.specs.FinMap.{get};
+    ghost use Rattle.std.specs.NonZero.{non_zero_usize_get};
     ghost use Rattle.ikey.specs.Orders.{order_of};
     ghost use Rattle.ikey.specs.Views.{Contents, IsView};
     ghost use Rattle.recover.specs.Directory.{Directory, IsConsistent, entries_in, used_in};
@@ -51,7 +52,7 @@ impl<S: Store, K: KeyOrder> Reader<S, K> {
     ghost use Rattle.reader.specs.Moving.{BeginsWalk, IsMoved, KeepsMayBe, KeepsWalks, MayBeginWalk};
     ghost use Rattle.reader.specs.ReadOnly.{looked_at};
     ghost use Rattle.reader.specs.Readers.{facts_of, whole_of, scan_of, store_of, last_of};
-    ghost use Rattle.reader.specs.Readers.{HoldsDirectory, RefusesGet, ShowsMap, KeepsMaps, KeepsMayMaps, MayShowMap};
+    ghost use Rattle.reader.specs.Readers.{IsOpened, RefusesGet, ShowsMap, KeepsMaps, KeepsMayMaps, MayShowMap};
 
     /// Reads `CURRENT`, the MANIFEST and the logs, and sees that each table is there with its
     /// length. `NoDatabase` for an empty directory, Corrupt and Unsupported as an open of a
@@ -68,8 +69,9 @@ impl<S: Store, K: KeyOrder> Reader<S, K> {
             → IsConsistent (order_of K.name K.cmp) (looked_at S.facts store).files d → IsView (entries_in d) (used_in d) map
             → ShowsMap (order_of K.name K.cmp) S.facts reader map) }
         // Whatever its tables hold: its version and its logs' entries are those of the directory.
-        ensures holds { IfOk result (λ reader. IsTrue (facts_of S.facts reader).faithful
-            → HoldsDirectory (order_of K.name K.cmp) S.facts (looked_at S.facts store).files reader) }
+        // It keeps as many blocks as it was told.
+        ensures holds { IfOk result (IsOpened (order_of K.name K.cmp) S.facts
+            (looked_at S.facts store).files (non_zero_usize_get cache_blocks)) }
         ensures found { IfOk result (λ reader. IsTrue (facts_of S.facts reader).faithful
             → (recovered : Recovered) × Recovers (order_of K.name K.cmp) (looked_at S.facts store).files recovered) }
         ensures refused { IfErr result (λ e. RefusesReader (order_of K.name K.cmp) e.0 (looked_at S.facts store) (looked_at S.facts e.1)) }

@@ -42,3 +42,6 @@ returns-clause-shows g c = λ f d contents good view.
     let kept = c.begin.new.self in
     let whole : Whole = record { seen = seen new kept.tables kept.blocks; memory = c.in_ok-source.field-0 } in
     shown_found (order_of g.K.KeyOrder.name g.K.KeyOrder.cmp) (g.S.Store.facts c.args.source.now.tables.store).files whole c.in_ok-version.version.value.tables c.recovered_law.ensures (returns-clause-holds g c f) d contents good view
+
+pub returns-clause-cached : goal.returns-clause-cached
+returns-clause-cached g c = c.in_ok-begin.ensures.capacity.1
