@@ -83,7 +83,7 @@ USES = '#include <wachuspi.h>\nint main(void) { return wch_version() != WCH_VERS
 
 
 def built_library(room):
-    """The library of build/, or of build/unproved/; if there is none, one of one function in its place."""
+    """The library of build/ or build/unproved/, or else one of one function."""
     for folder in (f"{ROOT}/build", f"{ROOT}/build/unproved"):
         if os.path.isfile(f"{folder}/libwachuspi.so.1"):
             return folder
@@ -99,7 +99,7 @@ def built_library(room):
 
 
 def want_uses(room, below, sysroot):
-    """Builds a program by what pkg-config says of what is installed, and runs it over the shared library."""
+    """Builds a program by what pkg-config says, and runs it over the shared library."""
     if not shutil.which("pkg-config"):
         return
     with open(f"{room}/uses.c", "w", encoding="utf-8") as source:
