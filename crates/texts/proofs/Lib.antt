@@ -1,3 +1,5 @@
 mod Pushed
 mod Spelled
-mod Returned
+pub mod Returned
+mod Words
+mod Members

@@ -1,14 +1,14 @@
 -- What is written is read back.
-use Rattle.std.proofs.Common.{◌≡◌, ◌<◌, ◌+◌, ◌*◌, ◌/◌, ◌%◌, ◌&&◌, ◌==◌, ℕ, Bool, true, false, cond, List, [], ◌∷◌, ◌++◌, All, Some, None, sym, ap, ap₂, ◌∙◌, subst, refl, arith}
-use Rattle.std.specs.Prelude.{Option, nat_le, slice_index}
+use Rattle.std.proofs.Common.{◌≡◌, ◌<◌, ◌+◌, ◌*◌, ◌/◌, ◌%◌, ◌&&◌, ◌==◌, ℕ, Bool, true, false, cond, List, [], ◌∷◌, ◌++◌, All, Some, sym, ap, ap₂, ◌∙◌, subst, refl, arith}
+use Rattle.std.specs.Prelude.{Option, nat_le}
 use Rattle.std.proofs.lemmas.Bool.{eqb-true}
 use Rattle.std.proofs.lemmas.List.Elements.{All-head, All-tail}
-use Rattle.hex.specs.Hex.{encode_lower, encode_with, hex_digit_value, lower_digits}
+use Rattle.hex.specs.Hex.{encode_lower, encode_with}
 use Rattle.hex.proofs.HexLemmas.{IsDigits-lower_digits}
 use Rattle.texts.specs.Texts.{IsText, behind_backslash, byte_of_values, escaped, escaped_byte, front_of, of_digits}
 use Rattle.texts.proofs.Spelled.{nothing_in_front, one_byte, one_rest}
 
-digits_written : (byte : ℕ) → byte < 256 → (rest : List ℕ) → of_digits (encode_lower (byte ∷ []) ++ rest) ≡ Some (byte, rest)
+pub digits_written : (byte : ℕ) → byte < 256 → (rest : List ℕ) → of_digits (encode_lower (byte ∷ []) ++ rest) ≡ Some (byte, rest)
 unfolding encode_with
 digits_written byte small rest =
     let high = IsDigits-lower_digits (byte / 16) (omega (arith, small)) in
@@ -22,7 +22,7 @@ written byte small rest true is_plain is = ap (λ (n : ℕ). Some (n, rest)) (sy
 written byte small rest false true is = ap (λ (t : Bool). cond t (behind_backslash rest) (Some (byte, rest))) is
 written byte small rest false false is = digits_written byte small rest
 
-front_written : (byte : ℕ) → byte < 256 → (rest : List ℕ) → front_of (escaped_byte byte ++ rest) ≡ Some (byte, rest)
+pub front_written : (byte : ℕ) → byte < 256 → (rest : List ℕ) → front_of (escaped_byte byte ++ rest) ≡ Some (byte, rest)
 front_written byte small rest = written byte small rest (byte == 92) (nat_le 32 byte && nat_le byte 126) refl
 
 append_three : (a b c : List ℕ) → (a ++ b) ++ c ≡ a ++ (b ++ c)

@@ -1,9 +1,8 @@
 -- Each byte is determined by the text that begins with it, and the rest of the text leads on as all
 -- of it does.
-use Rattle.std.proofs.Common.{◌≡◌, ◌<◌, ◌≤◌, ◌+◌, ◌-◌, ◌*◌, ◌/◌, ◌%◌, ℕ, List, [], ◌∷◌, ◌++◌, All, Some, None, length, take, drop, get_or, sym, ap, ◌∙◌, subst, refl, append_assoc, append-nil, arith}
+use Rattle.std.proofs.Common.{◌≡◌, ◌<◌, ◌≤◌, ℕ, List, [], ◌∷◌, ◌++◌, Some, None, length, drop, get_or, sym, ap, ◌∙◌, subst, refl, append_assoc, append-nil, arith}
 use Rattle.std.specs.Prelude.{Option}
-use Rattle.std.proofs.lemmas.List.{take_rest}
-use Rattle.texts.specs.Texts.{IsText, behind_backslash, front_of, of_digits}
+use Rattle.texts.specs.Texts.{IsText, front_of}
 
 pub nothing_in_front : (text : List ℕ) (byte : ℕ) (rest : List ℕ) → text ≡ [] → front_of text ≡ Some (byte, rest) → ⊥
 nothing_in_front text byte rest empty found = (let never = sym (ap front_of empty) ∙ found in cc)

@@ -15,6 +15,14 @@ abbrev pub escaped : List ℕ → List ℕ
 escaped [] = []
 escaped (byte ∷ bytes) = escaped_byte byte ++ escaped bytes
 
+-- as one word of a line: a space as \x20
+abbrev pub word_byte : ℕ → List ℕ
+word_byte byte = if byte == 32 then 92 ∷ 120 ∷ 50 ∷ 48 ∷ [] else escaped_byte byte
+
+abbrev pub escaped_word : List ℕ → List ℕ
+escaped_word [] = []
+escaped_word (byte ∷ bytes) = word_byte byte ++ escaped_word bytes
+
 -- ---- read: the byte that a text begins with, and the text behind it
 
 abbrev pub byte_of_values : Option ℕ → Option ℕ → List ℕ → Option (ℕ × List ℕ)
@@ -46,3 +54,13 @@ IsText text (byte ∷ bytes) = (rest : List ℕ) × (front_of text ≡ Some (byt
 abbrev pub TextLaw : Type 0
 TextLaw = (bytes : List ℕ) → All (λ byte. byte < 256) bytes
     → (other : List ℕ) → IsText (escaped bytes) other ↔ (other ≡ bytes)
+
+-- no byte is a space
+abbrev pub HasNoSpace : List ℕ → Type 0
+HasNoSpace [] = Unit {0}
+HasNoSpace (byte ∷ bytes) = (byte ≡ 32 → ⊥) × HasNoSpace bytes
+
+-- the word of some bytes is one, and a text of them and of nothing else
+abbrev pub WordLaw : Type 0
+WordLaw = (bytes : List ℕ) → All (λ byte. byte < 256) bytes
+    → HasNoSpace (escaped_word bytes) × ((other : List ℕ) → IsText (escaped_word bytes) other ↔ (other ≡ bytes))

@@ -2,7 +2,7 @@
 
 ghost use Rattle.std.specs.Prelude.{◌≡◌, ◌++◌, ◌∷◌, [], OnOk};
 ghost use Rattle.hex.specs.Hex.{encode_lower};
-ghost use Rattle.texts.specs.Texts.{escaped, escaped_byte};
+ghost use Rattle.texts.specs.Texts.{escaped, escaped_byte, escaped_word, word_byte};
 
 use std::alloc::AllocError;
 
@@ -16,6 +16,26 @@ pub fn push_text(text: &mut Vec<u8>, bytes: &[u8]) -> Result<(), AllocError>
         push_escaped(text, *byte)?;
     }
     Ok(())
+}
+
+/// Appends bytes to a text as one word of a line: the same, and a space is `\x20`. `Err` if memory
+/// ran out; a beginning may be left then.
+pub fn push_word(text: &mut Vec<u8>, bytes: &[u8]) -> Result<(), AllocError>
+    ensures { OnOk result (text.new.items ≡ text.old.items ++ escaped_word bytes.now) }
+{
+    for byte in bytes {
+        push_word_byte(text, *byte)?;
+    }
+    Ok(())
+}
+
+fn push_word_byte(text: &mut Vec<u8>, byte: u8) -> Result<(), AllocError>
+    ensures { OnOk result (text.new.items ≡ text.old.items ++ word_byte byte) }
+{
+    if byte == b' ' {
+        return text.extend_from_slice(b"\\x20");
+    }
+    push_escaped(text, byte)
 }
 
 fn push_escaped(text: &mut Vec<u8>, byte: u8) -> Result<(), AllocError>
@@ -32,6 +52,7 @@ fn push_escaped(text: &mut Vec<u8>, byte: u8) -> Result<(), AllocError>
     push_digits(text, byte)
 }
 
+// The two digits of a byte.
 fn push_digits(text: &mut Vec<u8>, byte: u8) -> Result<(), AllocError>
     ensures { OnOk result (text.new.items ≡ text.old.items ++ encode_lower (byte ∷ [])) }
 {

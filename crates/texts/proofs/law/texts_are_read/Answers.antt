@@ -1,4 +1,4 @@
-use Rattle.std.proofs.Common.{List, ℕ, sym, subst}
+use Rattle.std.proofs.Common.{sym, subst}
 use Rattle.texts.specs.Texts.{IsText, escaped}
 use Rattle.texts.proofs.Returned.{is_written, one_text}
 use Rattle.texts.proofs.law.texts_are_read.Goals as goal
