@@ -1,4 +1,4 @@
-use Rattle.std.proofs.Common.{[], List, Bool, true, false, sym, subst}
+use Rattle.std.proofs.Common.{[], ℕ, List, Bool, true, false, sym, subst}
 use Rattle.std.specs.Io.Buffered.{reader_remaining}
 use Rattle.batch.specs.declared.operation.Operation.{Operation}
 use Rattle.ikey.specs.Orders.{order_of}
