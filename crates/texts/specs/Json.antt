@@ -36,8 +36,8 @@ IsMember name digits_name member bytes =
     (member ≡ key name ∷ string bytes ∷ [])
     ⊎ ((digits : List ℕ) × (member ≡ key digits_name ∷ string digits ∷ []) × (decode_of digits ≡ Ok bytes))
 
--- A reader of JSON finds in an object's text its tokens. Those of a member have the bytes of which it
--- was written, and no others.
+-- A reader of JSON finds in an object's text its tokens. Those of a member have the bytes that were
+-- written, and no others.
 pub record JsonLaw : Type 0 where
   pub keys : (bytes : List ℕ) → tokens (print (key_tokens bytes)) ≡ key_tokens bytes
   pub pairs : (bytes value : List ℕ) → tokens (print (pair_tokens bytes value)) ≡ pair_tokens bytes value
