@@ -15,7 +15,7 @@ use Rattle.engine.specs.Outcomes.{IsAnswerTo, IsWriteAnswer, AreAnswersTo}
 use Rattle.engine.specs.Applied.{Applied}
 use Rattle.script.specs.Script.{IsWrite}
 use Rattle.script.specs.Commands.{IsRefusal, AreWell, AreGiven}
-use Rattle.script.specs.Importing.{AreBatches, WorksBehind, WritesBatch, written_by, all_written, taken_by, all_taken}
+use Rattle.script.specs.Importing.{AreBatches, AreFull, IsBatch, IsFull, WorksBehind, WritesBatch, written_by, all_written, taken_by, all_taken}
 use Rattle.script.proofs.Going.{goes_one, goes_then}
 
 pub refusal_or_not : (answer : Answer) → IsRefusal answer ⊎ (IsRefusal answer → ⊥)
@@ -88,6 +88,17 @@ batches_then most sync [] ds h g = g
 batches_then most sync (Write operations synced ∷ Work entries ∷ Work last ∷ cs) ds h g = (h.0, h.1, h.2, h.3, batches_then most sync cs ds h.4 g)
 batches_then most sync _ ds h g = absurd h
 
+pub full_then : (most : ℕ) (cs ds : List Op) → AreFull most cs → AreFull most ds → AreFull most (cs ++ ds)
+full_then most [] ds h g = g
+full_then most (Write operations synced ∷ cs) ds h g = (h.0, full_then most cs ds h.1 g)
+full_then most (_ ∷ cs) ds h g = full_then most cs ds h g
+
+-- what is written is what waited
+pub full_of : (most : ℕ) (sync : Bool) (write work last : Op) (operations : List Operation) → AreBatches most sync (write ∷ work ∷ last ∷ []) → all_written (write ∷ work ∷ last ∷ []) ≡ operations
+    → IsFull most operations → AreFull most (write ∷ work ∷ last ∷ [])
+full_of most sync (Write written synced) (Work entries) (Work further) operations shape is full = (subst (IsFull most) (sym is ∙ append-nil written.items) full, tt)
+full_of most sync _ _ _ operations shape is full = absurd shape
+
 -- behind commands that were given and not refused
 pub given_then : (front plan commands : List Op) (xs ys : List Answer) (ended : Answer) → AreWell xs → AreGiven plan commands ys ended
     → AreGiven (front ++ plan) (front ++ commands) (xs ++ ys) ended
@@ -106,9 +117,9 @@ given_then front plan commands xs ys ended well (inr some) =
 -- ---- a batch
 
 batch_shape : (most : ℕ) (sync : Bool) (operations : List Operation) (write : Op) (entries : ℕ)
-    → IsWrite operations sync write → length operations ≤ most → entries ≡ 6 * length operations → AreBatches most sync (write ∷ Work entries ∷ Work 1 ∷ [])
+    → IsWrite operations sync write → IsBatch most operations → entries ≡ 6 * length operations → AreBatches most sync (write ∷ Work entries ∷ Work 1 ∷ [])
 batch_shape most sync operations (Write written synced) entries is few work =
-    (subst (λ (os : List Operation). length os ≤ most) (sym is.0) few, is.1, work ∙ ap (λ (os : List Operation). 6 * length os) (sym is.0), refl, tt)
+    (subst (IsBatch most) (sym is.0) few, is.1, work ∙ ap (λ (os : List Operation). 6 * length os) (sym is.0), refl, tt)
 batch_shape most sync operations _ entries is few work = absurd is
 
 writes_these : (sync : Bool) (operations : List Operation) (write : Op) → IsWrite operations sync write → written_by write ≡ operations
@@ -120,7 +131,7 @@ write_answered sync operations (Write written synced) answer is may well = write
 write_answered sync operations _ answer is may well = absurd is
 
 pub batch_refused : {S K : Type 0} {g : _} (order : Order) (facts : S → Facts) (most : ℕ) (sync : Bool) (old new : Session S K g) (operations : List Operation) (count : ℕ) (write : Op) (entries : ℕ) (answer : Answer)
-    → IsWrite operations sync write → length operations ≤ most → entries ≡ 6 * length operations → Applied order facts write old new answer → IsRefusal answer
+    → IsWrite operations sync write → IsBatch most operations → entries ≡ 6 * length operations → Applied order facts write old new answer → IsRefusal answer
     → WritesBatch order facts most sync old new operations count count answer
 batch_refused order facts most sync old new operations count write entries answer is few work applied refused =
     let none : all_taken (write ∷ []) (answer ∷ []) ≡ [] = append-nil (taken_by write answer) ∙ refused_takes_none write answer refused in
@@ -141,7 +152,7 @@ batch_refused order facts most sync old new operations count write entries answe
     }
 
 pub batch_taken : {S K : Type 0} {g : _} (order : Order) (facts : S → Facts) (most : ℕ) (sync : Bool) (old mid new : Session S K g) (operations : List Operation) (before after : ℕ) (write : Op) (entries : ℕ) (answer ended : Answer)
-    → IsWrite operations sync write → length operations ≤ most → entries ≡ 6 * length operations → Applied order facts write old mid answer → (IsRefusal answer → ⊥)
+    → IsWrite operations sync write → IsBatch most operations → entries ≡ 6 * length operations → Applied order facts write old mid answer → (IsRefusal answer → ⊥)
     → WorksBehind order facts entries mid new ended → after ≡ before + length operations → WritesBatch order facts most sync old new operations before after ended
 batch_taken order facts most sync old mid new operations before after write entries answer ended is few work first well (commands, answers, given, ran) count =
     let front : taken_by write answer ≡ operations = one_taken write answer first.outcome.allowed well ∙ writes_these sync operations write is in

@@ -17,11 +17,12 @@ use Rattle.engine.specs.declared.session.Session.{Session}
 use Rattle.script.specs.Commands.{GoesOn, IsRefusal, AreGiven}
 use Rattle.script.specs.Drive.{lines_of, LeavesLines, TakesLine, AppendsFront}
 use Rattle.script.specs.Closing.{EndsClosed, TakesClosed}
-use Rattle.script.specs.Importing.{ImportValues, SaysOperation, SayOperations, IsPlan, AreBatches, written_by, all_written, all_taken, Takes, HasBadNext, EndsImport, HasTaken, HasBegun, WritesBatch, MakesRoom, TakesOperation, TakesSome, StopsImport, report_of}
+use Rattle.script.specs.Importing.{ImportValues, SaysOperation, SayOperations, IsPlan, IsBatch, IsFull, HasRoom, bytes_of, all_written, all_taken, Takes, HasBadNext, EndsImport, HasTaken, HasBegun, WritesBatch, MakesRoom, TakesOperation, TakesSome, StopsImport, report_of}
 use Rattle.script.proofs.Runs.{leaves_all, leaves_fewer, leaves_none}
 use Rattle.script.proofs.Written.{no_more}
 use Rattle.script.proofs.Going.{goes_then}
-use Rattle.script.proofs.Batched.{done_is_none, well_taken, taken_then, written_then, batches_then, given_then}
+use Rattle.script.proofs.Batched.{done_is_none, well_taken, taken_then, written_then, batches_then, full_then, full_of, given_then}
+use Rattle.script.proofs.SyncedAll.{given_synced, one_writes}
 
 say_then : (ls ms : List (List ℕ)) (os ps : List Operation) → SayOperations ls os → SayOperations ms ps → SayOperations (ls ++ ms) (os ++ ps)
 say_then [] ms [] ps h g = g
@@ -60,6 +61,7 @@ taken_none order facts how old now script opened = record {
   said = tt;
   batches = [];
   shape = tt;
+  full = tt;
   written = refl;
   answers = Done ∷ [];
   well = All-cons (λ a. IsRefusal a → ⊥) Done [] (λ h. h) (All-nil (λ a. IsRefusal a → ⊥));
@@ -77,6 +79,7 @@ taken_waits order facts how old now script left next waiting count line operatio
   said = say_then h.lines (line ∷ []) h.operations (operation ∷ []) h.said (says, tt);
   batches = h.batches;
   shape = h.shape;
+  full = h.full;
   written = ap (λ (os : List Operation). os ++ operation ∷ []) h.written ∙ append_assoc (all_written h.batches) waiting (operation ∷ []);
   answers = h.answers;
   well = h.well;
@@ -85,9 +88,9 @@ taken_waits order facts how old now script left next waiting count line operatio
 }
 
 pub taken_batch : {S K : Type 0} {g : _} (order : Order) (facts : S → Facts) (how : ImportValues) (old now new : Session S K g) (script left : Option (List ℕ)) (waiting : List Operation) (before after : ℕ)
-    → HasTaken order facts how old now script left waiting before → WritesBatch order facts how.batch how.sync now new waiting before after Done
+    → HasTaken order facts how old now script left waiting before → IsFull how.batch waiting → WritesBatch order facts how.batch how.sync now new waiting before after Done
     → HasTaken order facts how old new script left [] after
-taken_batch order facts how old now new script left waiting before after h b = elim b.given [
+taken_batch order facts how old now new script left waiting before after h full b = elim b.given [
   | inl all ↦
       let plan = b.write ∷ b.work ∷ b.last ∷ [] in
       let written : all_written (h.batches ++ plan) ≡ all_written h.batches ++ waiting = written_then h.batches plan ∙ ap (λ (os : List Operation). all_written h.batches ++ os) b.written in
@@ -101,6 +104,7 @@ taken_batch order facts how old now new script left waiting before after h b = e
         said = h.said;
         batches = h.batches ++ plan;
         shape = batches_then how.batch how.sync h.batches plan h.shape b.shape;
+        full = full_then how.batch h.batches plan h.full (full_of how.batch how.sync b.write b.work b.last waiting b.shape b.written full);
         written = h.written ∙ sym written ∙ sym (append-nil (all_written (h.batches ++ plan)));
         answers = h.answers ++ b.answers;
         well = All-append (λ a. IsRefusal a → ⊥) h.answers b.answers h.well all.2;
@@ -124,7 +128,7 @@ so_far order facts how old now script left waiting count h = record {
   operations = h.operations;
   said = h.said;
   plan = Open Any ∷ h.batches;
-  planned = (h.batches, refl, h.shape);
+  planned = (h.batches, refl, h.shape, h.full);
   gathered = waiting;
   written = h.written;
   whole = λ e. absurd (false≢true e);
@@ -149,6 +153,7 @@ ends_at_bad order facts how old now script left next waiting count line h takes 
   takes = so_far order facts how old now script left waiting count h;
   how_ended = inr (inr (refl, refl, bad_next script left next h.lines line h.leaves takes none));
   counted = h.counted ∙ sym (ap length (well_taken (Open Any ∷ h.batches) h.answers h.ran.allowed h.well));
+  synced = λ done. absurd (done_is_none (Refused BadLine) done tt);
 }
 
 -- what was taken with a batch behind it
@@ -168,6 +173,10 @@ ends_behind order facts how old now new script left waiting before after sync ou
     let here = taken_here order facts how old now new script left waiting before after sync outcome h b in
     let long : length (all_taken (Open Any ∷ h.batches ++ b.commands) (h.answers ++ b.answers)) ≡ length (all_written h.batches) + length (all_taken b.commands b.answers)
     = ap length here ∙ length-append (all_written h.batches) (all_taken b.commands b.answers) in
+    let plan = Open Any ∷ h.batches ++ b.write ∷ b.work ∷ b.last ∷ [] in
+    let whole : h.operations ≡ all_written plan = h.written ∙ ap (λ (os : List Operation). all_written h.batches ++ os) (sym b.written) ∙ sym (written_then h.batches (b.write ∷ b.work ∷ b.last ∷ [])) in
+    let given = given_then (Open Any ∷ h.batches) (b.write ∷ b.work ∷ b.last ∷ []) b.commands h.answers b.answers outcome h.well b.given in
+    let ran = goes_then order facts old now new (Open Any ∷ h.batches) b.commands h.answers b.answers h.ran b.ran in
     record {
       all = all;
       ended = outcome;
@@ -178,16 +187,15 @@ ends_behind order facts how old now new script left waiting before after sync ou
         last = last;
         operations = h.operations;
         said = h.said;
-        plan = Open Any ∷ h.batches ++ b.write ∷ b.work ∷ b.last ∷ [];
+        plan = plan;
         planned = planned;
         gathered = [];
-        written = h.written ∙ ap (λ (os : List Operation). all_written h.batches ++ os) (sym b.written) ∙ sym (written_then h.batches (b.write ∷ b.work ∷ b.last ∷ []))
-            ∙ sym (append-nil (all_written (Open Any ∷ h.batches ++ b.write ∷ b.work ∷ b.last ∷ [])));
+        written = whole ∙ sym (append-nil (all_written plan));
         whole = λ e. refl;
         commands = Open Any ∷ h.batches ++ b.commands;
         answers = h.answers ++ b.answers;
-        given = given_then (Open Any ∷ h.batches) (b.write ∷ b.work ∷ b.last ∷ []) b.commands h.answers b.answers outcome h.well b.given;
-        ran = goes_then order facts old now new (Open Any ∷ h.batches) b.commands h.answers b.answers h.ran b.ran;
+        given = given;
+        ran = ran;
         left = b.left;
         taken = h.written ∙ ap (λ (os : List Operation). all_written h.batches ++ os) b.taken ∙ sym (append_assoc (all_written h.batches) (all_taken b.commands b.answers) b.left)
             ∙ ap (λ (os : List Operation). os ++ b.left) (sym here);
@@ -197,27 +205,26 @@ ends_behind order facts how old now new script left waiting before after sync ou
         | inr refused ↦ inr (inl (refused, refl))
       ];
       counted = omega (arith, long, h.counted, b.counted);
+      synced = λ done. elim end [
+        | inl well ↦ given_synced order facts how old new plan (Open Any ∷ h.batches ++ b.commands) (h.answers ++ b.answers) h.operations outcome all done well.1 planned whole given ran
+        | inr refused ↦ absurd (done_is_none outcome done refused)
+      ];
     }
 
 pub ends_refused : {S K : Type 0} {g : _} (order : Order) (facts : S → Facts) (how : ImportValues) (old now new : Session S K g) (script left : Option (List ℕ)) (waiting : List Operation) (before after : ℕ) (outcome : Answer)
-    → HasTaken order facts how old now script left waiting before → WritesBatch order facts how.batch how.sync now new waiting before after outcome → IsRefusal outcome
+    → HasTaken order facts how old now script left waiting before → IsFull how.batch waiting → WritesBatch order facts how.batch how.sync now new waiting before after outcome → IsRefusal outcome
     → EndsImport order facts how old new script outcome after
-ends_refused order facts how old now new script left waiting before after outcome h b refused =
+ends_refused order facts how old now new script left waiting before after outcome h full b refused =
     ends_behind order facts how old now new script left waiting before after how.sync outcome h b false (later_of left) (first_lines script left h.lines h.leaves) (λ e. absurd (false≢true e))
-    (h.batches ++ b.write ∷ b.work ∷ b.last ∷ [], refl, batches_then how.batch how.sync h.batches (b.write ∷ b.work ∷ b.last ∷ []) h.shape b.shape) (inr refused)
-
--- what is written is what waited: one that writes nothing waited for nothing
-one_writes : (most : ℕ) (sync : Bool) (write work last : Op) (operations : List Operation) → AreBatches most sync (write ∷ work ∷ last ∷ []) → all_written (write ∷ work ∷ last ∷ []) ≡ operations
-    → written_by write ≡ [] → operations ≡ []
-one_writes most sync (Write written synced) (Work entries) (Work further) operations shape is none = sym is ∙ append-nil written.items ∙ none
-one_writes most sync _ _ _ operations shape is none = absurd shape
+    (h.batches ++ b.write ∷ b.work ∷ b.last ∷ [], refl, batches_then how.batch how.sync h.batches (b.write ∷ b.work ∷ b.last ∷ []) h.shape b.shape,
+    full_then how.batch h.batches (b.write ∷ b.work ∷ b.last ∷ []) h.full (full_of how.batch how.sync b.write b.work b.last waiting b.shape b.written full)) (inr refused)
 
 pub ends_whole : {S K : Type 0} {g : _} (order : Order) (facts : S → Facts) (how : ImportValues) (old now new : Session S K g) (script left next : Option (List ℕ)) (waiting : List Operation) (before after : ℕ) (outcome : Answer) (line : List ℕ)
     → HasBegun order facts how old now script left waiting before → TakesLine left next false line → WritesBatch order facts how.batch true now new waiting before after outcome
     → EndsImport order facts how old new script outcome after
 ends_whole order facts how old now new script left next waiting before after outcome line (h, one) none b =
     ends_behind order facts how old now new script left waiting before after true outcome h b true [] (all_lines script h.lines (leaves_none script left next h.lines line h.leaves none)) (λ e. refl)
-    (h.batches, b.write, b.work, b.last, refl, h.shape, b.shape, λ nothing. one (one_writes how.batch true b.write b.work b.last waiting b.shape b.written nothing)) (elim b.given [
+    (h.batches, b.write, b.work, b.last, refl, h.shape, h.full, b.shape, λ nothing. one (one_writes how.batch true b.write b.work b.last waiting b.shape b.written nothing)) (elim b.given [
       | inl all ↦ inl (all.0, refl, b.whole all.0)
       | inr some ↦ inr some.0
     ])
@@ -235,7 +242,7 @@ ends_unopened order facts how old new script refused is ran = record {
     operations = [];
     said = tt;
     plan = Open Any ∷ [];
-    planned = ([], refl, tt);
+    planned = ([], refl, tt, tt);
     gathered = [];
     written = refl;
     whole = λ e. refl;
@@ -248,6 +255,7 @@ ends_unopened order facts how old new script refused is ran = record {
   };
   how_ended = inr (inl (is, refl));
   counted = sym (ap length (no_operations refused));
+  synced = λ done. absurd (done_is_none refused done is);
 }
   where
     no_operations : (a : Answer) → all_taken (Open Any ∷ []) (a ∷ []) ≡ []
@@ -264,7 +272,7 @@ pub room_ends : {S K : Type 0} {g : _} (order : Order) (facts : S → Facts) (ho
     → HasTaken order facts how old now script left waiting before → MakesRoom order facts how now new waiting still before after outcome → IsRefusal outcome
     → EndsImport order facts how old new script outcome after
 room_ends order facts how old now new script left waiting still before after outcome h (inl waits) refused = absurd (done_is_none outcome waits.0 refused)
-room_ends order facts how old now new script left waiting still before after outcome h (inr batch) refused = ends_refused order facts how old now new script left waiting before after outcome h batch.1 refused
+room_ends order facts how old now new script left waiting still before after outcome h (inr batch) refused = ends_refused order facts how old now new script left waiting before after outcome h batch.0 batch.2 refused
 
 pub room_goes_on : {S K : Type 0} {g : _} (order : Order) (facts : S → Facts) (how : ImportValues) (old now new : Session S K g) (script left : Option (List ℕ)) (waiting still : List Operation) (before after : ℕ) (outcome : Answer)
     → HasTaken order facts how old now script left waiting before → MakesRoom order facts how now new waiting still before after outcome → (IsRefusal outcome → ⊥)
@@ -274,9 +282,9 @@ room_goes_on {S} {K} {g} order facts how old now new script left waiting still b
     (subst (λ (s : Session S K g). HasTaken order facts how old s script left waiting after) (sym waits.2)
     (subst (λ (n : ℕ). HasTaken order facts how old now script left waiting n) (sym waits.3) h))
 room_goes_on order facts how old now new script left waiting still before after outcome h (inr batch) well =
-    subst (λ (os : List Operation). HasTaken order facts how old new script left os after) (sym batch.0)
-    (taken_batch order facts how old now new script left waiting before after h
-    (subst (λ (o : Answer). WritesBatch order facts how.batch how.sync now new waiting before after o) (given_well batch.1.given well) batch.1))
+    subst (λ (os : List Operation). HasTaken order facts how old new script left os after) (sym batch.1)
+    (taken_batch order facts how old now new script left waiting before after h batch.0
+    (subst (λ (o : Answer). WritesBatch order facts how.batch how.sync now new waiting before after o) (given_well batch.2.given well) batch.2))
 
 -- ---- a line
 
@@ -290,8 +298,24 @@ line_waits order facts how old now script left next waiting still count line h t
     subst (λ (os : List Operation). HasBegun order facts how old now script next os count) (sym is)
     (taken_waits order facts how old now script left next waiting count line operation h takes says, λ none. absurd (one_waits waiting operation none))
 
-pub line_long : (line : List ℕ) (waiting still : List Operation) (most : ℕ) → TakesOperation line waiting still true → length waiting < most → length still ≤ most
-line_long line waiting still most (operation, says, is) room = let e : length still ≡ length (waiting ++ operation ∷ []) = ap length is in omega (arith, e, length-append waiting (operation ∷ []), room)
+pub line_long : (line : List ℕ) (waiting still : List Operation) (most : ℕ) → TakesOperation line waiting still true → HasRoom most waiting → IsBatch most still
+line_long line waiting still most (operation, says, is) room = record {
+  count = let e : length still ≡ length (waiting ++ operation ∷ []) = ap length is in omega (arith, e, length-append waiting (operation ∷ []), room.count);
+  bytes = inr (waiting, operation, is, room.bytes);
+}
+
+-- where nothing waits
+pub none_waits : (waiting : List Operation) (most : ℕ) → waiting ≡ [] → 1 ≤ most → HasRoom most waiting
+none_waits waiting most none some = record {
+  count = let e : length waiting ≡ 0 = ap length none in omega (arith, e, some);
+  bytes = let e : bytes_of waiting ≡ 0 = ap bytes_of none in omega (arith, e);
+}
+
+pub none_is_batch : (waiting : List Operation) (most : ℕ) → waiting ≡ [] → IsBatch most waiting
+none_is_batch waiting most none = record {
+  count = let e : length waiting ≡ 0 = ap length none in omega (arith, e);
+  bytes = inl none;
+}
 
 -- what the lines after the open lead to
 abbrev pub Carries : {S K : Type 0} {g : _} → Order → (S → Facts) → ImportValues → Session S K g → Session S K g → Option (List ℕ) → Option (List ℕ) → ℕ → List Operation → ℕ → Type 0

@@ -1,11 +1,13 @@
 -- What an import does to a session that has no database open, and what it writes.
-use Rattle.std.specs.Prelude.{◌≡◌, ◌⊎◌, ◌<◌, ◌≤◌, ◌+◌, ◌*◌, ◌++◌, ℕ, Bool, true, false, List, [], ◌∷◌, length, codes, Option, IfSome}
+use Rattle.std.specs.Prelude.{◌≡◌, ◌⊎◌, ◌<◌, ◌≤◌, ◌+◌, ◌*◌, ◌^◌, ◌++◌, ◌≢◌, ℕ, Bool, true, false, List, [], ◌∷◌, length, sum_by, codes, Option, IfSome}
 use Rattle.std.specs.Fmt.{decimal}
 use Rattle.std.specs.Io.KnownBytes.{Appends}
 use Rattle.batch.specs.declared.operation.Operation.{Operation}
+use Rattle.batch.specs.declared.operation.Operation.TheVariants.{Put, Delete}
 use Rattle.coding.specs.declared.error.DbError.TheVariants.{BadLine}
 use Rattle.store.specs.Files.{Facts}
 use Rattle.ikey.specs.Orders.{Order}
+use Rattle.machine.specs.Machine.{Machine}
 use Rattle.machine.specs.declared.command.Mode.TheVariants.{Any}
 use Rattle.machine.specs.declared.command.Op.{Op}
 use Rattle.machine.specs.declared.command.Op.TheVariants.{Open, Write, Work, Close}
@@ -13,6 +15,7 @@ use Rattle.machine.specs.declared.command.Answer.{Answer}
 use Rattle.machine.specs.declared.command.Answer.TheVariants.{Done, Refused}
 use Rattle.engine.specs.declared.session.Session.{Session}
 use Rattle.engine.specs.Applied.{Applied}
+use Rattle.engine.specs.Follows.{Follows}
 use Rattle.script.specs.Words.{words_of}
 use Rattle.script.specs.Script.{IsOperation, refusal_of}
 use Rattle.script.specs.Commands.{GoesOn, AreGiven, AreWell, IsRefusal, status_of}
@@ -37,29 +40,65 @@ SayOperations (line ∷ lines) (operation ∷ operations) = SaysOperation line o
 SayOperations [] (operation ∷ operations) = ⊥
 SayOperations (line ∷ lines) [] = ⊥
 
+-- ---- batches
+
+-- how many bytes the key and the value of an operation have
+abbrev pub bytes_in : Operation → ℕ
+bytes_in (Put key value) = length key + length value
+bytes_in (Delete key) = length key
+
+-- and those of all of them
+abbrev pub bytes_of : List Operation → ℕ
+bytes_of operations = sum_by bytes_in operations
+
+-- Operations that wait are no batch yet: they are fewer than that, and have less than 1 MiB.
+pub record HasRoom (most : ℕ) (waiting : List Operation) : Type 0 where
+  pub count : length waiting < most
+  pub bytes : bytes_of waiting < 2 ^ 20
+
+-- They are one.
+abbrev pub IsFull : ℕ → List Operation → Type 0
+IsFull most waiting = (most ≤ length waiting) ⊎ (2 ^ 20 ≤ bytes_of waiting)
+
+-- There are none, or all but the last one have less than 1 MiB.
+abbrev pub FitsBytes : List Operation → Type 0
+FitsBytes operations = (operations ≡ []) ⊎ ((front : List Operation) × (last : Operation) × (operations ≡ front ++ last ∷ []) × (bytes_of front < 2 ^ 20))
+
+-- A batch has at most so many operations, and is within its bytes.
+pub record IsBatch (most : ℕ) (operations : List Operation) : Type 0 where
+  pub count : length operations ≤ most
+  pub bytes : FitsBytes operations
+
 -- ---- commands
 
--- Batches of at most so many operations, all synced or none. Behind each one six entries of work
--- for each of its operations, and one more: it writes the table of a memory table that the work has
--- sealed, before the next batch comes.
+-- Such batches, all synced or none. Behind each one six entries of work for each of its operations,
+-- and one more: it writes the table of a memory table that the work has sealed, before the next
+-- batch comes.
 abbrev pub AreBatches : ℕ → Bool → List Op → Type 0
 AreBatches most sync [] = Unit {0}
 AreBatches most sync (Write operations synced ∷ Work entries ∷ Work last ∷ commands) =
-    (length operations.items ≤ most) × (synced ≡ sync) × (entries ≡ 6 * length operations.items) × (last ≡ 1) × AreBatches most sync commands
+    IsBatch most operations.items × (synced ≡ sync) × (entries ≡ 6 * length operations.items) × (last ≡ 1) × AreBatches most sync commands
 AreBatches most sync _ = ⊥
+
+-- Each batch is a full one: it has as many operations as one has, or 1 MiB.
+abbrev pub AreFull : ℕ → List Op → Type 0
+AreFull most [] = Unit {0}
+AreFull most (Write operations synced ∷ commands) = IsFull most operations.items × AreFull most commands
+AreFull most (_ ∷ commands) = AreFull most commands
 
 -- the operations that a command writes
 abbrev pub written_by : Op → List Operation
 written_by (Write operations sync) = operations.items
 written_by _ = []
 
--- An open and batches; behind all lines one more, which is synced, and which has operations
+-- An open and full batches; behind all lines one more, which is synced, and which has operations
 -- wherever a line had one.
 abbrev pub IsPlan : ImportValues → Bool → List Op → Type 0
-IsPlan how false plan = (batches : List Op) × (plan ≡ Open Any ∷ batches) × AreBatches how.batch how.sync batches
+IsPlan how false plan = (batches : List Op) × (plan ≡ Open Any ∷ batches) × AreBatches how.batch how.sync batches × AreFull how.batch batches
 IsPlan how true plan =
     (batches : List Op) × (write work last : Op) × (plan ≡ Open Any ∷ batches ++ write ∷ work ∷ last ∷ [])
-    × AreBatches how.batch how.sync batches × AreBatches how.batch true (write ∷ work ∷ last ∷ []) × (written_by write ≡ [] → batches ≡ [])
+    × AreBatches how.batch how.sync batches × AreFull how.batch batches
+    × AreBatches how.batch true (write ∷ work ∷ last ∷ []) × (written_by write ≡ [] → batches ≡ [])
 
 -- what these commands write
 abbrev pub all_written : List Op → List Operation
@@ -105,6 +144,10 @@ abbrev pub HasBadNext : Option (List ℕ) → List (List ℕ) → Type 0
 HasBadNext script lines = IfSome script (λ bytes. (line : List ℕ) × (later : List (List ℕ))
     × (lines_of bytes ≡ lines ++ line ∷ later) × ((operation : Operation) → SaysOperation line operation → ⊥))
 
+-- no batch that the machine accepted is lost with the power
+abbrev pub AllSynced : Machine → Machine → Type 0
+AllSynced old new = new.synced ≡ length new.batches
+
 -- It came to an end: all lines were taken, a command was refused, or a line says no operation. So
 -- many operations were taken.
 pub record EndsImport {S K : Type 0} {g : _} (order : Order) (facts : S → Facts) (how : ImportValues) (old new : Session S K g) (script : Option (List ℕ)) (outcome : Answer) (count : ℕ) : Type 0 where
@@ -116,6 +159,9 @@ pub record EndsImport {S K : Type 0} {g : _} (order : Order) (facts : S → Fact
       ⊎ (IsRefusal outcome × (ended ≡ outcome))
       ⊎ ((outcome ≡ Refused BadLine) × (ended ≡ Done) × HasBadNext script takes.lines)
   pub counted : count ≡ length (all_taken takes.commands takes.answers)
+  -- Where all lines were taken, and one says an operation, the machine has synced every batch while
+  -- the store is faithful. So the device has them all (`Session::losses`).
+  pub synced : outcome ≡ Done → takes.operations ≢ [] → Follows order facts old new AllSynced
 
 -- the line of a refusal, where it is one
 abbrev pub refusal_line : Answer → List ℕ
@@ -159,6 +205,7 @@ pub record HasTaken {S K : Type 0} {g : _} (order : Order) (facts : S → Facts)
   pub said : SayOperations lines operations
   pub batches : List Op
   pub shape : AreBatches how.batch how.sync batches
+  pub full : AreFull how.batch batches
   pub written : operations ≡ all_written batches ++ waiting
   pub answers : List Answer
   pub well : AreWell answers
@@ -190,11 +237,11 @@ abbrev pub WorksBehind : {S K : Type 0} {g : _} → Order → (S → Facts) → 
 WorksBehind order facts entries old new outcome =
     (commands : List Op) × (answers : List Answer) × AreGiven (Work entries ∷ Work 1 ∷ []) commands answers outcome × GoesOn order facts old new commands answers
 
--- There was room for an operation more; or what waited was written.
+-- There was room for an operation more; or what waited was a batch, and was written.
 abbrev pub MakesRoom : {S K : Type 0} {g : _} → Order → (S → Facts) → ImportValues → Session S K g → Session S K g → List Operation → List Operation → ℕ → ℕ → Answer → Type 0
 MakesRoom order facts how old new waiting still before after outcome =
     ((outcome ≡ Done) × (still ≡ waiting) × (new ≡ old) × (after ≡ before))
-    ⊎ ((still ≡ []) × WritesBatch order facts how.batch how.sync old new waiting before after outcome)
+    ⊎ (IsFull how.batch waiting × (still ≡ []) × WritesBatch order facts how.batch how.sync old new waiting before after outcome)
 
 -- The line's operation waits behind the others; or it says none.
 abbrev pub TakesOperation : List ℕ → List Operation → List Operation → Bool → Type 0

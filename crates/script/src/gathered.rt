@@ -1,6 +1,7 @@
 //! Operations that wait to be written.
 
-ghost use Rattle.std.specs.Prelude.{◌≡◌, ◌≤◌, ◌<◌, ◌++◌, ◌∷◌, [], ⊤, length, OnOk, OnErr, IfOk, MatchBool};
+ghost use Rattle.std.specs.Prelude.{◌≡◌, ◌-◌, ◌^◌, ◌++◌, ◌∷◌, [], length, min, OnOk, OnErr, IfOk, MatchBool};
+ghost use Rattle.script.specs.Importing.{HasRoom, IsFull, bytes_in, bytes_of};
 ghost use Rattle.script.specs.Script.{IsWrite};
 
 use batch::Operation;
@@ -17,6 +18,7 @@ const BATCH_BYTES: usize = 1_048_576;
 pub struct Gathered {
     operations: Vec<Operation>,
     bytes: usize,
+    ghost counted: { bytes ≡ min (bytes_of operations.items) (2 ^ 64 - 1) },
 }
 
 impl Gathered {
@@ -51,7 +53,7 @@ impl Gathered {
 
     /// Returns whether they are a batch, of which this many operations are the most.
     pub fn is_full(&self, most: usize) -> bool
-        ensures { MatchBool result ⊤ (length self.now.operations.items < most) }
+        ensures { MatchBool result (IsFull most self.now.operations.items) (HasRoom most self.now.operations.items) }
     {
         if self.operations.len() >= most {
             return true;
@@ -82,7 +84,9 @@ impl Gathered {
 }
 
 // How many bytes the key and the value of an operation have.
-fn length_of(operation: &Operation) -> usize {
+fn length_of(operation: &Operation) -> usize
+    ensures { result ≡ min (bytes_in operation.now) (2 ^ 64 - 1) }
+{
     match operation {
         Operation::Put(key, value) => key.len().saturating_add(value.len()),
         Operation::Delete(key) => key.len(),

@@ -9,7 +9,7 @@ ghost use Rattle.machine.specs.declared.command.Answer.TheVariants.{Done};
 ghost use Rattle.engine.specs.Applied.{IsShut};
 ghost use Rattle.script.specs.Commands.{GoesOn, IsRefusal};
 ghost use Rattle.script.specs.Closing.{EndsClosed, TakesClosed};
-ghost use Rattle.script.specs.Importing.{EndsImport, EndsRest, Imports, MakesRoom, StopsImport, TakesOperation, TakesRest, TakesSome, WorksBehind, WritesBatch};
+ghost use Rattle.script.specs.Importing.{EndsImport, EndsRest, HasRoom, Imports, IsBatch, MakesRoom, StopsImport, TakesOperation, TakesRest, TakesSome, WorksBehind, WritesBatch};
 ghost use Rattle.script.specs.Importing.{refusal_line, report_of};
 
 use crate::answer::push_with_number;
@@ -43,8 +43,8 @@ pub const WORK_PER_OPERATION: u32 = 6;
 ///
 /// A batch is written once it has as many operations as it may have, or 1 MiB of keys and values,
 /// and another line comes; after each one work is done. What waits at the end of the lines is
-/// written with sync, and the database is closed. A full batch waits so that the last one is never
-/// empty.
+/// written with sync, and the database is closed. So after status 0 the device has all operations
+/// that were taken. A full batch waits so that the last one is never empty.
 ///
 /// The first command that is refused ends it, and so does a line that is none of the two, as
 /// `BadLine`. What waits isn't written then. The listener is told of the refusal. On a `Fault` some
@@ -173,10 +173,10 @@ fn make_room<S: Store, K: KeyOrder>(
     gathered: &mut Gathered,
     taken: &mut u64,
 ) -> Result<Answer, AllocError>
-    requires few { length gathered.old.operations.items ≤ how.now.batch }
+    requires few { IsBatch how.now.batch gathered.old.operations.items }
     ensures ok { IfOk result (λ outcome. MakesRoom (order_of K.name K.cmp) S.facts how.now session.old session.new
         gathered.old.operations.items gathered.new.operations.items taken.old taken.new outcome) }
-    ensures room { OnOk result (length gathered.new.operations.items < how.now.batch) }
+    ensures room { OnOk result (HasRoom how.now.batch gathered.new.operations.items) }
     ensures err { OnErr result (session.new ≡ session.old) }
 {
     if !gathered.is_full(how.batch()) {
@@ -207,7 +207,7 @@ fn write_gathered<S: Store, K: KeyOrder>(
     sync: bool,
     taken: &mut u64,
 ) -> Result<Answer, AllocError>
-    requires few { length gathered.old.operations.items ≤ how.now.batch }
+    requires few { IsBatch how.now.batch gathered.old.operations.items }
     ensures ok { IfOk result (λ outcome. WritesBatch (order_of K.name K.cmp) S.facts how.now.batch sync session.old session.new
         gathered.old.operations.items taken.old taken.new outcome) }
     ensures none { OnOk result (gathered.new.operations.items ≡ []) }

@@ -1,11 +1,11 @@
-use Rattle.std.proofs.Common.{◌≡◌, [], ℕ, List, Bool, true, false, length, sym, ap, subst, arith}
+use Rattle.std.proofs.Common.{[], ℕ, List, Bool, true, false, sym, subst}
 use Rattle.std.specs.Io.Buffered.{reader_remaining}
 use Rattle.batch.specs.declared.operation.Operation.{Operation}
 use Rattle.ikey.specs.Orders.{order_of}
 use Rattle.script.specs.Drive.{TakesLine}
 use Rattle.script.specs.Importing.{HasBegun, TakesOperation}
 use Rattle.script.proofs.Written.{on_err}
-use Rattle.script.proofs.Imported.{stops, stops_still, ends_at_bad, room_ends, room_goes_on, line_waits, line_long, ends_whole}
+use Rattle.script.proofs.Imported.{stops, stops_still, ends_at_bad, room_ends, room_goes_on, line_waits, line_long, none_is_batch, ends_whole}
 use Rattle.script.proofs.importing.take_lines.Goals as goal
 
 pub loop-init : goal.loop-init
@@ -13,10 +13,9 @@ loop-init g c =
     let order = order_of g.K.KeyOrder.name g.K.KeyOrder.cmp in
     let facts = g.S.Store.facts in
     let remaining = reader_remaining g.R.Read.remaining in
-    let none : length c.in_ok-gathered.gathered.operations.items ≡ 0 = ap length c.in_ok-gathered.ensures in
     record {
       carries = λ old script h. subst (λ (waiting : List Operation). HasBegun order facts c.args.how.now old c.args.session.now script (remaining c.args.input.now) waiting c.args.taken.now) (sym c.in_ok-gathered.ensures) h;
-      room = omega (arith, none);
+      room = none_is_batch c.in_ok-gathered.gathered.operations.items c.args.how.now.batch c.in_ok-gathered.ensures;
     }
 
 pub loop-preserved : goal.loop-preserved
