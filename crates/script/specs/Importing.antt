@@ -1,5 +1,6 @@
 -- What an import does to a session that has no database open, and what it writes.
-use Rattle.std.specs.Prelude.{◌≡◌, ◌⊎◌, ◌<◌, ◌≤◌, ◌+◌, ◌*◌, ◌^◌, ◌++◌, ◌≢◌, ℕ, Bool, true, false, List, [], ◌∷◌, length, sum_by, codes, Option, IfSome}
+use Rattle.std.specs.Prelude.{◌≡◌, ◌⊎◌, ◌<◌, ◌≤◌, ◌+◌, ◌*◌, ◌^◌, ◌++◌, ◌≢◌, ℕ, Bool, true, false}
+use Rattle.std.specs.Prelude.{List, [], ◌∷◌, length, sum_by, codes, Option, IfSome}
 use Rattle.std.specs.Fmt.{decimal}
 use Rattle.std.specs.Io.KnownBytes.{Appends}
 use Rattle.batch.specs.declared.operation.Operation.{Operation}
@@ -62,7 +63,8 @@ IsFull most waiting = (most ≤ length waiting) ⊎ (2 ^ 20 ≤ bytes_of waiting
 
 -- There are none, or all but the last one have less than 1 MiB.
 abbrev pub FitsBytes : List Operation → Type 0
-FitsBytes operations = (operations ≡ []) ⊎ ((front : List Operation) × (last : Operation) × (operations ≡ front ++ last ∷ []) × (bytes_of front < 2 ^ 20))
+FitsBytes operations = (operations ≡ [])
+    ⊎ ((front : List Operation) × (last : Operation) × (operations ≡ front ++ last ∷ []) × (bytes_of front < 2 ^ 20))
 
 -- A batch has at most so many operations, and is within its bytes.
 pub record IsBatch (most : ℕ) (operations : List Operation) : Type 0 where
@@ -77,7 +79,8 @@ pub record IsBatch (most : ℕ) (operations : List Operation) : Type 0 where
 abbrev pub AreBatches : ℕ → Bool → List Op → Type 0
 AreBatches most sync [] = Unit {0}
 AreBatches most sync (Write operations synced ∷ Work entries ∷ Work last ∷ commands) =
-    IsBatch most operations.items × (synced ≡ sync) × (entries ≡ 6 * length operations.items) × (last ≡ 1) × AreBatches most sync commands
+    IsBatch most operations.items × (synced ≡ sync) × (entries ≡ 6 * length operations.items) × (last ≡ 1)
+    × AreBatches most sync commands
 AreBatches most sync _ = ⊥
 
 -- Each batch is a full one: it has as many operations as one has, or 1 MiB.
@@ -94,7 +97,8 @@ written_by _ = []
 -- An open and full batches; behind all lines one more, which is synced, and which has operations
 -- wherever a line had one.
 abbrev pub IsPlan : ImportValues → Bool → List Op → Type 0
-IsPlan how false plan = (batches : List Op) × (plan ≡ Open Any ∷ batches) × AreBatches how.batch how.sync batches × AreFull how.batch batches
+IsPlan how false plan =
+    (batches : List Op) × (plan ≡ Open Any ∷ batches) × AreBatches how.batch how.sync batches × AreFull how.batch batches
 IsPlan how true plan =
     (batches : List Op) × (write work last : Op) × (plan ≡ Open Any ∷ batches ++ write ∷ work ∷ last ∷ [])
     × AreBatches how.batch how.sync batches × AreFull how.batch batches
