@@ -1,8 +1,8 @@
 -- Pairs one after the other, in a room.
-use Rattle.std.proofs.Common.{◌≡◌, ◌⊎◌, inl, inr, ℕ, ℤ, pos, ◌+◌, ◌-◌, ◌*◌, ◌≤◌, List, [], ◌∷◌, ◌++◌, append-nil, length, take, drop}
+use Rattle.std.proofs.Common.{◌≡◌, inl, inr, ℕ, ℤ, pos, ◌+◌, ◌-◌, ◌≤◌, List, [], ◌∷◌, ◌++◌, append-nil, length, take, drop}
 use Rattle.std.proofs.Common.{Option, Some, None, refl, ap, sym, subst, ◌∙◌, length-append, arith}
 use Rattle.std.proofs.Math.Seq.{drop-append_seam, take-append_seam}
-use Rattle.std.proofs.lemmas.List.{append_assoc, drop-drop, length-drop, length-take}
+use Rattle.std.proofs.lemmas.List.{append_assoc, drop-drop, length-drop}
 use Rattle.byteorder.specs.Endian.{little_bytes}
 use Rattle.ikey.specs.Orders.{Order}
 use Rattle.machine.specs.Causes.{Motion}

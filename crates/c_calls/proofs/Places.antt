@@ -1,6 +1,6 @@
 -- Where an iterator stands in the list.
 use Rattle.std.proofs.Common.{◌≡◌, ◌≤◌, ◌<◌, ℕ, zero, suc, Bool, true, false, cond, nat_eq, List, [], ◌∷◌, length, refl, ap, arith}
-use Rattle.std.proofs.Common.{Option, Some, None, slice_index_or, slice_set, sym, ◌∙◌}
+use Rattle.std.proofs.Common.{Option, Some, None, slice_index_or, slice_set, ◌∙◌}
 use Rattle.std.specs.List.{remove}
 use Rattle.c_calls.specs.Standings.{moved_to, pair_of, place, without}
 use Rattle.c_calls.specs.declared.standings.Standing.{Standing}

@@ -1,5 +1,5 @@
 -- Where iterators stand, by their ids.
-use Rattle.std.specs.Prelude.{◌≡◌, ℕ, suc, nat_eq, if◌then◌else◌, Option, Some, None, List, [], ◌∷◌}
+use Rattle.std.specs.Prelude.{ℕ, suc, nat_eq, if◌then◌else◌, Option, Some, None, List, [], ◌∷◌}
 use Rattle.c_calls.specs.declared.standings.Standing.{Standing}
 
 -- the place of an iterator in the list, or the list's length

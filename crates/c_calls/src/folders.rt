@@ -1,6 +1,6 @@
 // A folder that isn't open: whether it is consistent, and mending it.
 
-ghost use Rattle.std.specs.Prelude.{◌≡◌};
+ghost use Rattle.std.specs.Prelude.{◌≡◌, length};
 ghost use Rattle.c_calls.specs.Calls.{bytewise};
 ghost use Rattle.c_calls.specs.Folders.{CheckServed, CheckTold, CutServed, MendServed, PlanServed, PlanTold};
 ghost use Rattle.c_calls.specs.Folders.{CutsTold, bytewise_name, ends_in, told_cut};
@@ -50,7 +50,9 @@ impl CutFile {
     }
 }
 
-fn told_as(kind: u32, number: u64, cut: &Cut) -> CutFile {
+fn told_as(kind: u32, number: u64, cut: &Cut) -> CutFile
+    ensures { result ≡ record { kind = kind; number = number; at = length cut.now.front.items; length = cut.now.length; zeros = cut.now.zeros } }
+{
     CutFile {
         kind,
         number,

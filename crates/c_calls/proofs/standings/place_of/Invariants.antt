@@ -1,4 +1,4 @@
-use Rattle.std.proofs.Common.{◌≡◌, ℕ, ◌+◌, drop}
+use Rattle.std.proofs.Common.{◌≡◌, ◌+◌, drop}
 use Rattle.c_calls.specs.Standings.{place}
 use Rattle.c_calls.proofs.standings.place_of.Given as goal
 
