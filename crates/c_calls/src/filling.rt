@@ -118,7 +118,8 @@ impl<S: Store> Handle<S> {
         room: &mut [u8],
         filled: &mut Filled,
     ) -> i32
-        ensures { FillServed bytewise S.facts id (way_of backwards) room.old room.new filled.new self.old self.new result }
+        ensures { FillServed bytewise S.facts id (way_of backwards) room.old room.new filled.new
+            self.old self.new result }
     {
         *filled = Filled::none();
         let most = room.len() / LENGTHS + 1;
@@ -143,7 +144,8 @@ impl<S: Store> Handle<S> {
     ) -> Step
         requires used { filled.old.used ≤ length room.old }
         requires pairs { filled.old.pairs ≤ filled.old.used }
-        ensures { FillsOne bytewise S.facts id (way_of backwards) room.old room.new filled.old filled.new self.old self.new result }
+        ensures { FillsOne bytewise S.facts id (way_of backwards) room.old room.new filled.old filled.new
+            self.old self.new result }
     {
         match self.copy_next(id, room, filled) {
             Copied::Added => match self.step(alloc, id, backwards) {

@@ -51,7 +51,13 @@ impl CutFile {
 }
 
 fn told_as(kind: u32, number: u64, cut: &Cut) -> CutFile
-    ensures { result ≡ record { kind = kind; number = number; at = length cut.now.front.items; length = cut.now.length; zeros = cut.now.zeros } }
+    ensures { result ≡ record {
+      kind = kind;
+      number = number;
+      at = length cut.now.front.items;
+      length = cut.now.length;
+      zeros = cut.now.zeros;
+    } }
 {
     CutFile {
         kind,
