@@ -1,5 +1,6 @@
 -- What a call that copies many pairs promises.
-use Rattle.std.specs.Prelude.{◌≡◌, ◌⊎◌, ◌≤◌, ◌<◌, ◌+◌, ◌-◌, ◌*◌, ◌^◌, ◌++◌, ℕ, ℤ, pos, negsuc, Option, Some, None, Ok, Err}
+use Rattle.std.specs.Prelude.{◌≡◌, ◌⊎◌, ◌≤◌, ◌<◌, ◌+◌, ◌-◌, ◌*◌, ◌^◌, ◌++◌, ℕ, ℤ, pos, negsuc}
+use Rattle.std.specs.Prelude.{Option, Some, None, Ok, Err}
 use Rattle.std.specs.Prelude.{List, [], ◌∷◌, length, take, drop}
 use Rattle.byteorder.specs.Endian.{little_bytes}
 use Rattle.coding.specs.declared.error.DbError.{DbError}
@@ -100,7 +101,8 @@ IsEnd left (Some (Some pair)) code = (code ≡ pos 0) × HasNoRoom pair.0 pair.1
 
 -- The iterator stood on each of these pairs in turn, and was moved on after each. It ends where it
 -- stands, or with a move that was refused.
-abbrev pub Passes : {S : Type 0} → Order → (S → Facts) → ℕ → Motion → ℕ → List (List ℕ × List ℕ) → Handle S → Handle S → ℤ → Type 0
+abbrev pub Passes : {S : Type 0} → Order → (S → Facts) → ℕ → Motion → ℕ → List (List ℕ × List ℕ) → Handle S → Handle S
+    → ℤ → Type 0
 Passes order facts id way left [] old new code = (new ≡ old) × IsEnd left (pair_of id old.iterators.items) code
 Passes {S} order facts id way left (pair ∷ pairs) old new code = (pair_of id old.iterators.items ≡ Some (Some pair))
     × (((mid : Handle S) × MovesOn order facts id way old mid None × Passes order facts id way left pairs mid new code)
@@ -128,4 +130,5 @@ pub record FillsSoFar {S : Type 0} (order : Order) (facts : S → Facts) (id : �
   pub pairs : List (List ℕ × List ℕ)
   pub laid : IsLaid before now filled pairs
   pub moves : (left : ℕ) (rest : List (List ℕ × List ℕ)) (end : Handle S) (code : ℤ)
-      → Passes order facts id way left rest here end code → Passes order facts id way left (pairs ++ rest) begun end code
+      → Passes order facts id way left rest here end code
+      → Passes order facts id way left (pairs ++ rest) begun end code

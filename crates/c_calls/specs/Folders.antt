@@ -62,7 +62,7 @@ pub record Begins {S K : Type 0} {g : _} (order : Order) (facts : S → Facts) (
   pub begun : (ids.snapshot ≡ 0) × (ids.iterator ≡ 0)
   pub step : Leads (facts store) (facts (db_store_of db)) (StandsClosed order (facts store) ids)
       (StandsDb order facts db) (λ m n. Opens m mode Done n)
-  pub options : db_options_of db ≡ options
+  pub sizes : db_options_of db ≡ options
   pub found : IsTrue (facts (db_store_of db)).faithful → IsOpenable order (facts store).files
   pub stops : OpenStops order (facts store) (facts (db_store_of db)) ids
   pub loses : OpenLosesOn order (facts store) (facts (db_store_of db)) ids
