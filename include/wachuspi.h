@@ -113,8 +113,9 @@ typedef struct wch_trouble {
 uint32_t wch_version(void);
 void wch_default_options(wch_options *options);
 
-/* Opens the database of a folder that exists. The path is UTF-8: another one is WCH_MISUSED.
- * *db must be WCH_NONE or closed. On an error it stays closed, and *trouble says more. */
+/* Opens the database of a folder that exists. *db must be WCH_NONE or closed. On an error it stays
+ * closed, and *trouble says more in words, after WCH_MISUSED too. The path must be UTF-8, and so
+ * must each folder's name that the system finds on the way, through links as well. */
 int32_t wch_open(const uint8_t *path, size_t path_length, const wch_options *options, uint32_t mode,
                  wch_db *db, wch_trouble *trouble);
 
@@ -191,6 +192,25 @@ size_t wch_explain(int32_t answer, uint8_t *room, size_t room_length);
 /* Checks the files of a folder that no process has open. WCH_OK: a consistent database.
  * WCH_NOT_FOUND: none at all. WCH_CORRUPT and WCH_UNSUPPORTED: *trouble says where. */
 int32_t wch_check(const uint8_t *path, size_t path_length, wch_trouble *trouble);
+
+/* Flags of wch_mend. WCH_DRY_RUN: no file is changed. WCH_HOLES: a broken fragment is cut off also
+ * if other bytes than zeros follow it. Whole records after it go with it. */
+enum { WCH_DRY_RUN = 1, WCH_HOLES = 2 };
+enum { WCH_LOG = 1, WCH_MANIFEST = 2 };
+
+/* A file that is cut: NUMBER.log or MANIFEST-NUMBER, each number with six digits or more. Of its
+ * length bytes the first `at` stay, and it ends with so many zeros. */
+typedef struct wch_cut { uint32_t kind; uint64_t number, at, length, zeros; } wch_cut;
+
+/* Cuts off the zeros with which a power loss can end the MANIFEST and logs. For these wch_open
+ * returns WCH_CORRUPT. All these files are read before one is written, and each is replaced whole,
+ * so a crash leaves it as it was or mended. No record is cut off, unless with WCH_HOLES.
+ * *count is how many files are cut. The room has them as far as they fit, the MANIFEST first.
+ * WCH_NOT_FOUND: there is no database. WCH_LOCKED: a handle has the folder.
+ * WCH_CORRUPT and WCH_UNSUPPORTED: it is damaged in another way, and no file was changed. After
+ * another error some of the files may be mended: call it again. */
+int32_t wch_mend(const uint8_t *path, size_t path_length, uint32_t flags, wch_cut *cuts,
+                 size_t cuts_length, size_t *count, wch_trouble *trouble);
 
 #ifdef __cplusplus
 }

@@ -34,11 +34,12 @@ static void checks_opening(void) {
   CHECK(wch_open(B("/nonexistent/folder"), &options, WCH_ANY, &db, &trouble) == WCH_NO_DATABASE);
   CHECK(trouble.words_length > 0 && !db.holds);
   CHECK(open_as(WCH_EXISTING, &db) == WCH_NO_DATABASE);
-  CHECK(open_as(9, &db) == WCH_MISUSED);
+  CHECK(open_as(9, &db) == WCH_MISUSED && trouble.words_length > 0);
   wrong.write_buffer = 0;
   CHECK(wch_open(folder, folder_length, &wrong, WCH_ANY, &db, &trouble) == WCH_MISUSED);
-  CHECK(wch_open(B("not utf-8: \xff"), &options, WCH_ANY, &db, &trouble) == WCH_MISUSED);
   CHECK(trouble.words_length > 0);
+  CHECK(wch_open(B("not utf-8: \xff"), &options, WCH_ANY, &db, &trouble) == WCH_MISUSED);
+  CHECK(trouble.words_length > 20 && memcmp(trouble.words, "the path isn't UTF-8", 20) == 0);
   CHECK(wch_check(folder, folder_length, &trouble) == WCH_NOT_FOUND);
   CHECK(open_as(WCH_NEW, &db) == WCH_OK && db.holds);
   CHECK(open_as(WCH_ANY, &db) == WCH_MISUSED && db.holds);
@@ -168,6 +169,7 @@ static void checks_filling(wch_db *db) {
   CHECK(wch_iter_fill(db, it, 1, room, sizeof room, &filled) == WCH_NOT_FOUND);
   CHECK(filled.pairs == 3 && memcmp(room, all + 27, 20) == 0);
   CHECK(wch_iter_fill(db, 99, 0, room, sizeof room, &filled) == WCH_NO_ITERATOR);
+  CHECK(wch_iter_fill(db, 99, 0, room, 4, &filled) == WCH_NO_ITERATOR && filled.pairs == 0);
 }
 
 static void checks_upkeep(wch_db *db) {
@@ -189,6 +191,48 @@ static void checks_names(void) {
   CHECK(has("OutOfMemory", wch_explain(WCH_WORK_REFUSED + WCH_OUT_OF_MEMORY, room, sizeof room)));
   CHECK(has("Unknown", wch_explain(-7, room, sizeof room)));
   CHECK(wch_explain(WCH_BROKEN, room, 2) == 6 && memcmp(room, "Br", 2) == 0);
+}
+
+/* Adds zeros to the end of a file, as a power loss can. */
+static void adds_zeros(const char *name, size_t count) {
+  char path[600];
+  snprintf(path, sizeof path, "%s/%s", (const char *)folder, name);
+  FILE *file = fopen(path, "ab");
+  CHECK(file != NULL);
+  for (size_t n = 0; n < count; n++) putc(0, file);
+  CHECK(fclose(file) == 0);
+}
+
+static int32_t mends(uint32_t flags, wch_cut *cuts, size_t cuts_length, size_t *count) {
+  return wch_mend(folder, folder_length, flags, cuts, cuts_length, count, &trouble);
+}
+
+static void checks_mending(void) {
+  wch_db db = WCH_NONE;
+  wch_cut cuts[2] = {{0, 0, 0, 0, 0}, {0, 0, 0, 0, 0}};
+  size_t count;
+  char name[64];
+  CHECK(wch_mend(B("/nonexistent/folder"), 0, cuts, 2, &count, &trouble) == WCH_NO_DATABASE);
+  CHECK(wch_mend(B("not utf-8: \xff"), 0, cuts, 2, &count, &trouble) == WCH_MISUSED);
+  CHECK(mends(0, cuts, 2, &count) == WCH_OK && count == 0);
+  CHECK(open_as(WCH_EXISTING, &db) == WCH_OK && wch_put(&db, B("nut"), B("brown"), 0) == WCH_OK);
+  CHECK(mends(0, cuts, 2, &count) == WCH_LOCKED && count == 0 && wch_close(&db) == WCH_OK);
+  /* what CURRENT names, and the log of that MANIFEST */
+  snprintf(name, sizeof name, "%s/CURRENT", (const char *)folder);
+  FILE *current = fopen(name, "rb");
+  CHECK(current != NULL && fgets(name, sizeof name, current) != NULL && fclose(current) == 0);
+  name[strcspn(name, "\n")] = 0;
+  unsigned long number = strtoul(name + strlen("MANIFEST-"), NULL, 10);
+  adds_zeros(name, 9);
+  CHECK(open_as(WCH_EXISTING, &db) == WCH_CORRUPT);
+  CHECK(mends(WCH_DRY_RUN, cuts, 2, &count) == WCH_OK && count == 1);
+  CHECK(cuts[0].kind == WCH_MANIFEST && cuts[0].number == number && cuts[0].zeros == 9);
+  CHECK(cuts[0].at + 9 == cuts[0].length && open_as(WCH_EXISTING, &db) == WCH_CORRUPT);
+  CHECK(mends(WCH_HOLES, cuts, 0, &count) == WCH_OK && count == 1);
+  CHECK(mends(0, cuts, 2, &count) == WCH_OK && count == 0);
+  CHECK(open_as(WCH_EXISTING, &db) == WCH_OK);
+  CHECK(wch_get(&db, B("nut"), 0, room, sizeof room, &count) == WCH_OK && has("brown", count));
+  CHECK(wch_close(&db) == WCH_OK);
 }
 
 int main(int argc, char **argv) {
@@ -213,6 +257,7 @@ int main(int argc, char **argv) {
   CHECK(open_as(WCH_EXISTING, &db) == WCH_OK);
   CHECK(wch_get(&db, B("plum"), 0, room, sizeof room, &length) == WCH_OK && has("blue", length));
   CHECK(wch_close(&db) == WCH_OK);
+  checks_mending();
   checks_names();
   puts("the C checks passed");
   return 0;

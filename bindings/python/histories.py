@@ -191,6 +191,7 @@ def errors(path):
     refused(wachuspi.IOError, "NoDatabase", lambda: wachuspi.DB(path + "/not/there"))
     db = wachuspi.DB(path, create_if_missing=True)
     refused(wachuspi.IOError, "Locked", lambda: wachuspi.DB(path))
+    refused(wachuspi.Error, "Misused", lambda: wachuspi.DB(os.fsdecode(b"not utf-8: \xff")))
     refused(wachuspi.Error, "KeyTooLong", lambda: db.put(b"k" * 70000, b""))
     refused(TypeError, None, lambda: db.put("text", b""))
     long = os.urandom(300_000)
@@ -218,6 +219,26 @@ def errors(path):
     refused(wachuspi.CorruptionError, "Corrupt", lambda: wachuspi.DB(path))
     refused(wachuspi.CorruptionError, "Corrupt", lambda: wachuspi.check(path))
     return "errors"
+
+
+def mended(path):
+    """Zeros at the end of the MANIFEST, as a power loss can leave them."""
+    assert wachuspi.mend(".") == []
+    with wachuspi.DB(path, create_if_missing=True) as db:
+        db.put(b"apple", b"red")
+        refused(wachuspi.IOError, "Locked", lambda: wachuspi.mend(path))
+    with open(f"{path}/CURRENT", encoding="utf-8") as file:
+        name = file.read().rstrip()
+    with open(f"{path}/{name}", "ab") as file:
+        whole = file.tell()
+        file.write(bytes(9))
+    refused(wachuspi.CorruptionError, "Corrupt", lambda: wachuspi.DB(path))
+    wanted = [(name, whole, whole + 9, 9)]
+    assert wachuspi.mend(path, dry_run=True) == wanted and wachuspi.mend(path, holes=True) == wanted
+    with wachuspi.DB(path) as db:
+        assert db.get(b"apple") == b"red"
+    assert wachuspi.check(path)
+    return "a power loss is mended"
 
 
 def wrong_thread(db):
@@ -283,6 +304,7 @@ def main(words):
         print(kills(f"{room}/kills", seed))
         os.mkdir(f"{room}/errors")
         print(errors(f"{room}/errors"))
+        print(mended(f"{room}/mended"))
         if plyvel:
             print(beside_plyvel(f"{room}/beside"))
         shutil.rmtree(f"{room}/drawn")

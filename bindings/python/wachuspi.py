@@ -4,7 +4,8 @@ import ctypes.util
 import os
 import threading
 
-__all__ = ["DB", "CorruptionError", "Error", "IOError", "IteratorInvalidError", "check", "open"]
+__all__ = ["DB", "CorruptionError", "Error", "IOError", "IteratorInvalidError", "check", "mend",
+           "open"]
 
 _VERSION = 1
 _SYNC, _WORK = 1, 2
@@ -34,6 +35,11 @@ class _Trouble(c.Structure):
     _fields_ = [("has", c.c_uint32), ("code", c.c_int32)] + [(it, c.c_uint64) for it in (
         "at", "found", "wanted", "count", "name_length", "words_length")] + [
         ("name", c.c_uint8 * 48), ("words", c.c_uint8 * 160)]
+
+
+class _Cut(c.Structure):
+    _fields_ = [("kind", c.c_uint32)] + [(it, c.c_uint64) for it in (
+        "number", "at", "length", "zeros")]
 
 
 _H, _B, _N, _P = c.POINTER(_Handle), c.c_char_p, c.c_size_t, c.c_void_p
@@ -66,6 +72,7 @@ _CALLS = {
     "last_trouble": (_I32, [_H, c.POINTER(_Trouble)]),
     "explain": (_N, [_I32, _P, _N]),
     "check": (_I32, [_B, _N, c.POINTER(_Trouble)]),
+    "mend": (_I32, [_B, _N, _U32, c.POINTER(_Cut), _N, _LENGTH, c.POINTER(_Trouble)]),
 }
 
 
@@ -173,6 +180,20 @@ def check(name):
     if code > 0:
         raise _error(code, trouble)
     return code == 0
+
+
+def mend(name, *, dry_run=False, holes=False):
+    """Cuts off the zeros that a power loss can leave at the end of the MANIFEST and of logs.
+    Returns of each file that it cut: its name, how many bytes stay, how many it had, how many zeros
+    it ended with."""
+    path, trouble, count, room = os.fsencode(name), _Trouble(), c.c_size_t(), 1024
+    cuts = (_Cut * room)()
+    code = _lib.wch_mend(path, len(path), dry_run | holes << 1, cuts, room,
+                         c.byref(count), c.byref(trouble))
+    if code > 0:
+        raise _error(code, trouble)
+    return [("MANIFEST-%06d" % it.number if it.kind == 2 else "%06d.log" % it.number,
+             it.at, it.length, it.zeros) for it in cuts[:count.value]]
 
 
 class DB(_Keys, _Closing):

@@ -3,7 +3,7 @@
 use Rattle.std.specs.Cmp.Lexicographic.{slice_cmp}
 use Rattle.std.specs.Ordering.{nat_cmp}
 use Rattle.std.specs.Prelude.{◌≡◌, ◌⊎◌, ℕ, ℤ, pos, Bool, not, nat_eq, bit_and, codes, MatchBool, Option, MatchOption}
-use Rattle.std.specs.Prelude.{Result, Ok, IfErr, MatchResult, List, [], ◌∷◌}
+use Rattle.std.specs.Prelude.{Result, Ok, Err, IfErr, MatchResult, List, [], ◌∷◌}
 use Rattle.batch.specs.Batch.{refusal_of}
 use Rattle.batch.specs.declared.operation.Operation.{Operation}
 use Rattle.coding.specs.declared.error.DbError.{DbError}
@@ -32,7 +32,10 @@ use Rattle.engine.specs.declared.pace.Pace.TheVariants.{Refused}
 use Rattle.engine.specs.declared.work.Progress.{Progress}
 use Rattle.c_calls.specs.Codes.{snapshot_in, told}
 use Rattle.c_calls.specs.Told.{IdTold, PairTold, ProgressTold, ValueTold, number, paced}
+use Rattle.c_calls.specs.Standings.{moved_to}
+use Rattle.c_calls.specs.declared.handle.Handle.{Handle}
 use Rattle.c_calls.specs.declared.room.Pair.{Pair}
+use Rattle.c_calls.specs.declared.standings.Standing.{Standing}
 
 -- the order of keys that C's databases have
 abbrev pub bytewise : Order
@@ -118,11 +121,17 @@ MoveDone order facts id motion old new answer =
     Does order facts (λ m answer n. Moves order m id motion (pair_answer answer) n) (MayRefuseMove motion)
     (λ s. move_cause s id motion) old new answer
 
-abbrev pub MoveServed : {S K : Type 0} {g : _} → Order → (S → Facts) → ℕ → Motion → List ℕ → List ℕ → Pair
-    → Db S K g → Db S K g → ℤ → Type 0
+-- The iterator stands on the pair to which it came. If its move was refused, it stays.
+abbrev pub KeepsPair : ℕ → Result (Option (List ℕ × List ℕ)) DbError → List Standing → List Standing → Type 0
+KeepsPair id (Ok found) old new = new ≡ moved_to id found old
+KeepsPair id (Err error) old new = new ≡ old
+
+abbrev pub MoveServed : {S : Type 0} → Order → (S → Facts) → ℕ → Motion → List ℕ → List ℕ → Pair
+    → Handle S → Handle S → ℤ → Type 0
 MoveServed order facts id motion before after counts old new code =
     (answer : Result (Option (List ℕ × List ℕ)) DbError) × PairTold answer before after counts code
-    × MoveDone order facts id motion old new answer
+    × MoveDone order facts id motion old.db new.db answer
+    × KeepsPair id answer old.iterators.items new.iterators.items
 
 -- ---- writing
 

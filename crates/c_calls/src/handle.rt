@@ -1,23 +1,16 @@
 // What C holds of a database: the database, and where its iterators stand.
 
-ghost use Rattle.std.specs.Prelude.{◌≡◌};
+ghost use Rattle.std.specs.Prelude.{◌≡◌, []};
 ghost use Rattle.c_calls.specs.Calls.{GetServed, ReleaseServed, SnapshotServed, bytewise};
 ghost use Rattle.engine.specs.StandsDb.{db_store_of};
 
 use crate::codes::{snapshot_of, status};
 use crate::room::{tell_id, tell_value};
-use coding::Bytes;
+use crate::standings::Standing;
 use engine::Db;
 use ikey::Bytewise;
 use std::alloc::Global;
 use store::{Store, Trouble};
-
-/// An iterator, and the pair on which it stands.
-#[derive(Drop)]
-pub struct Standing {
-    pub id: u64,
-    pub pair: Option<(Bytes, Bytes)>,
-}
 
 /// An open database, and where its iterators stand.
 #[derive(Drop)]
@@ -29,7 +22,8 @@ pub struct Handle<S> {
 impl<S: Store> Handle<S> {
     /// A handle without iterators.
     pub fn of(alloc: Global, db: Db<S, Bytewise>) -> Self
-        ensures { result.db ≡ db }
+        ensures db { result.db ≡ db }
+        ensures nowhere { result.iterators.items ≡ [] }
     {
         Handle {
             db,

@@ -4,10 +4,12 @@
 
 mod codes;
 mod filling;
+mod folders;
 mod handle;
 mod moves;
 mod opens;
 mod room;
+mod standings;
 mod upkeep;
 mod writes;
 
@@ -15,6 +17,7 @@ pub use codes::{
     CLOSED, MISUSED, NOT_FOUND, SYNC, WORK, WORK_REFUSED, number_of, snapshot_of, status,
 };
 pub use filling::Filled;
+pub use folders::{CutFile, check_store, mend_store};
 pub use handle::Handle;
 pub use moves::Motion;
 pub use opens::{mode_of, open};

@@ -1,12 +1,15 @@
 // Iterators.
 
-ghost use Rattle.std.specs.Prelude.{◌≡◌, ◌≤◌, length};
-ghost use Rattle.c_calls.specs.Calls.{DropServed, IterServed, MoveDone, MoveServed, bytewise};
+ghost use Rattle.std.specs.Prelude.{◌≡◌, Some};
+ghost use Rattle.c_calls.specs.Calls.{DropServed, IterServed, KeepsPair, MoveDone, MoveServed, bytewise};
 ghost use Rattle.c_calls.specs.Motions.{going};
+ghost use Rattle.c_calls.specs.Standings.{moved_to, pair_of, without};
+ghost use Rattle.c_calls.specs.Told.{StandingTold};
 
 use crate::codes::{NOT_FOUND, number_of, snapshot_of, status};
-use crate::handle::{Handle, Standing};
+use crate::handle::Handle;
 use crate::room::{Pair, copy_pair, tell_id, tell_pair};
+use crate::standings::{Standing, find, forget, keep};
 use coding::{Bytes, DbError};
 use std::alloc::Global;
 use store::Store;
@@ -19,16 +22,6 @@ pub enum Motion<'a> {
     Seek(&'a [u8]),
     Next,
     Prev,
-}
-
-// Where the iterator of an id stands in the list, or the list's length.
-fn place_of(iterators: &[Standing], id: u64) -> usize {
-    for (place, standing) in iterators.iter().enumerate() {
-        if standing.id == id {
-            return place;
-        }
-    }
-    iterators.len()
 }
 
 impl<S: Store> Handle<S> {
@@ -63,12 +56,10 @@ impl<S: Store> Handle<S> {
 
     // Forgets where an iterator stands.
     fn forget(&mut self, id: u64)
-        ensures { self.new.db ≡ self.old.db }
+        ensures db { self.new.db ≡ self.old.db }
+        ensures gone { self.new.iterators.items ≡ without id self.old.iterators.items }
     {
-        let place = place_of(self.iterators.as_slice(), id);
-        if place < self.iterators.len() {
-            let _gone = self.iterators.swap_remove(place);
-        }
+        forget(&mut self.iterators, id);
     }
 
     /// Moves an iterator, and copies the pair to which it came.
@@ -81,7 +72,7 @@ impl<S: Store> Handle<S> {
         pair: &mut Pair,
     ) -> i32
         ensures { MoveServed bytewise S.facts id (going motion.entry) room.old room.new pair.new
-            self.old.db self.new.db result }
+            self.old self.new result }
     {
         let answer = self.moved(alloc, id, motion);
         let code = tell_pair(&answer, room, pair);
@@ -95,7 +86,8 @@ impl<S: Store> Handle<S> {
         id: u64,
         motion: Motion,
     ) -> Result<Option<(Bytes, Bytes)>, DbError>
-        ensures { MoveDone bytewise S.facts id (going motion.entry) self.old.db self.new.db result }
+        ensures done { MoveDone bytewise S.facts id (going motion.entry) self.old.db self.new.db result }
+        ensures still { self.new.iterators ≡ self.old.iterators }
     {
         match motion {
             Motion::First => self.db.iter_first(alloc, id),
@@ -108,7 +100,8 @@ impl<S: Store> Handle<S> {
 
     // Keeps the pair to which an iterator came, if its move succeeded.
     fn keep_found(&mut self, id: u64, answer: Result<Option<(Bytes, Bytes)>, DbError>)
-        ensures { self.new.db ≡ self.old.db }
+        ensures db { self.new.db ≡ self.old.db }
+        ensures kept { KeepsPair id answer self.old.iterators.items self.new.iterators.items }
     {
         if let Ok(found) = answer {
             self.keep(id, found);
@@ -117,32 +110,34 @@ impl<S: Store> Handle<S> {
 
     // Keeps the pair to which an iterator came.
     pub(crate) fn keep(&mut self, id: u64, found: Option<(Bytes, Bytes)>)
-        ensures { self.new.db ≡ self.old.db }
+        ensures db { self.new.db ≡ self.old.db }
+        ensures kept { self.new.iterators.items ≡ moved_to id found self.old.iterators.items }
     {
-        let place = place_of(self.iterators.as_slice(), id);
-        if let Some(standing) = self.iterators.get_mut(place) {
-            standing.pair = found;
-        }
-    }
-
-    // The iterator of an id.
-    pub(crate) fn standing(&self, id: u64) -> Option<&Standing> {
-        let place = place_of(self.iterators.as_slice(), id);
-        self.iterators.get(place)
+        keep(&mut self.iterators, id, found);
     }
 
     /// Copies the pair on which an iterator stands.
-    pub fn iter_pair(&self, id: u64, room: &mut [u8], pair: &mut Pair) -> i32 {
+    pub fn iter_pair(&self, id: u64, room: &mut [u8], pair: &mut Pair) -> i32
+        ensures { StandingTold (pair_of id self.now.iterators.items) room.old room.new pair.new result }
+    {
         *pair = Pair::none();
-        match self.standing(id) {
+        match find(self.iterators.as_slice(), id) {
             None => number_of(DbError::NoIterator),
-            Some(standing) => match &standing.pair {
-                None => NOT_FOUND,
-                Some((key, value)) => {
-                    copy_pair(key, value, room, pair);
-                    0
-                }
-            },
+            Some(standing) => tell_standing(&standing.pair, room, pair),
+        }
+    }
+}
+
+// Tells where an iterator stands.
+fn tell_standing(found: &Option<(Bytes, Bytes)>, room: &mut [u8], pair: &mut Pair) -> i32
+    requires { (pair.old.key_length ≡ 0) × (pair.old.value_length ≡ 0) }
+    ensures { StandingTold (Some found.now) room.old room.new pair.new result }
+{
+    match found {
+        None => NOT_FOUND,
+        Some((key, value)) => {
+            copy_pair(key, value, room, pair);
+            0
         }
     }
 }

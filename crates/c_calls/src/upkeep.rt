@@ -2,6 +2,8 @@
 
 ghost use Rattle.std.specs.Prelude.{◌≡◌};
 ghost use Rattle.c_calls.specs.Calls.{AllServed, CompactServed, LevelServed, SettleServed, WorkServed, bytewise};
+ghost use Rattle.c_calls.specs.Told.{TablesTold};
+ghost use Rattle.engine.specs.StandsDb.{open_by};
 
 use crate::codes::{status, tell_progress};
 use crate::handle::Handle;
@@ -53,7 +55,9 @@ impl<S: Store> Handle<S> {
     }
 
     /// How many tables a level has, or -1 where there is no such level.
-    pub fn tables(&self, level: u32) -> i64 {
+    pub fn tables(&self, level: u32) -> i64
+        ensures { TablesTold level (open_by self.now.db).tables result }
+    {
         match self.db.tables_in(level) {
             Some(count) => i64::try_from(count).unwrap_or(i64::MAX),
             None => -1,

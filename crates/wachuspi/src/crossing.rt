@@ -1,6 +1,7 @@
 // What crosses: structs that C has too.
 
-ghost use Rattle.std.specs.Prelude.{◌≡◌};
+ghost use Rattle.std.specs.Prelude.{◌≡◌, IfSome};
+ghost use Rattle.wachuspi.specs.Opening.{options_in};
 
 use c_calls::copy_into;
 use engine::Options;
@@ -35,7 +36,9 @@ impl COptions {
     }
 
     /// The same as options of a database; None where one is outside its range.
-    pub fn checked(&self) -> Option<Options> {
+    pub fn checked(&self) -> Option<Options>
+        ensures { IfSome result (λ options. options ≡ options_in self.now) }
+    {
         Options::new(
             self.write_buffer,
             self.block_bytes,
@@ -97,6 +100,17 @@ impl CTrouble {
         }
     }
 
+    /// Says why a call was refused of which the store knows nothing.
+    pub fn say(&mut self, words: &str) {
+        *self = CTrouble::none();
+        self.put_words(words.as_bytes());
+    }
+
+    fn put_words(&mut self, words: &[u8]) {
+        self.words_length = words.len().min(WORDS) as u64;
+        copy_into(words, &mut self.words);
+    }
+
     /// Tells a note of the store, with its words as far as there is memory for them.
     pub fn tell(&mut self, alloc: Global, trouble: Trouble) {
         *self = CTrouble::none();
@@ -123,8 +137,6 @@ impl CTrouble {
         if write!(words, "{trouble}").is_err() {
             return;
         }
-        let words = words.as_str().as_bytes();
-        self.words_length = words.len().min(WORDS) as u64;
-        copy_into(words, &mut self.words);
+        self.put_words(words.as_str().as_bytes());
     }
 }

@@ -1,6 +1,6 @@
 // What C holds of a database.
 
-ghost use Rattle.std.specs.Prelude.{◌≡◌, MatchOption, None, Some, is_some};
+ghost use Rattle.std.specs.Prelude.{◌≡◌, MatchBool, MatchOption, None, Some, is_some};
 
 use crate::held::Held;
 use crate::slots::Slot;
@@ -53,7 +53,10 @@ impl Database {
     }
 
     /// Boxes a handle and puts it in; false if there is no memory for the box.
-    pub fn fill(&mut self, alloc: Global, handle: Handle<FileStore>) -> bool {
+    pub fn fill(&mut self, alloc: Global, handle: Handle<FileStore>) -> bool
+        ensures { MatchBool result (self.new.slot.held ≡ Some (record { handle = handle }))
+            (self.new.slot.held ≡ self.old.slot.held) }
+    {
         match Box::new(alloc, Held { handle }) {
             Ok(held) => {
                 self.put(held);

@@ -1,6 +1,7 @@
 use crate::batch::Batch;
 use crate::cursor::Cursor;
 use crate::error::{Error, Result};
+use crate::folder::bytes_of;
 use crate::iter::Iter;
 use crate::raw;
 use std::cell::UnsafeCell;
@@ -86,24 +87,8 @@ pub struct Db {
     raw: UnsafeCell<raw::Handle>,
 }
 
-fn bytes_of(path: &Path) -> &[u8] {
-    path.as_os_str().as_encoded_bytes()
-}
-
-/// Checks the files of a folder that no process has open: whether there is a database, and an error
-/// if it isn't consistent.
-pub fn check(folder: impl AsRef<Path>) -> Result<bool> {
-    let path = bytes_of(folder.as_ref());
-    let mut trouble = raw::Trouble::NONE;
-    match unsafe { raw::wch_check(path.as_ptr(), path.len(), &mut trouble) } {
-        0 => Ok(true),
-        -1 => Ok(false),
-        code => Err(Error::of(code, &trouble)),
-    }
-}
-
 impl Db {
-    /// Opens the database of a folder that exists.
+    /// Opens the database of a folder that exists. The path must be UTF-8.
     pub fn open(folder: impl AsRef<Path>, mode: Mode) -> Result<Db> {
         Db::open_with(folder, mode, &Options::default())
     }

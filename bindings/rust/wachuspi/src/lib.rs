@@ -46,13 +46,15 @@ mod batch;
 mod cursor;
 mod db;
 mod error;
+mod folder;
 mod iter;
 mod raw;
 
 pub use batch::Batch;
 pub use cursor::Cursor;
-pub use db::{check, Db, Mode, Options, Snapshot, WriteOptions};
+pub use db::{Db, Mode, Options, Snapshot, WriteOptions};
 pub use error::{Error, Result};
+pub use folder::{check, mend, Cut, MendOptions};
 pub use iter::Iter;
 
 /// A key and its value.

@@ -68,6 +68,16 @@ impl Trouble {
     };
 }
 
+#[repr(C)]
+#[derive(Clone, Copy, Default)]
+pub struct Cut {
+    pub kind: u32,
+    pub number: u64,
+    pub at: u64,
+    pub length: u64,
+    pub zeros: u64,
+}
+
 type Bytes = *const u8;
 type Room = *mut u8;
 
@@ -131,4 +141,13 @@ extern "C" {
     pub fn wch_last_trouble(db: *mut Handle, trouble: *mut Trouble) -> i32;
     pub fn wch_explain(answer: i32, room: Room, n: usize) -> usize;
     pub fn wch_check(path: Bytes, path_length: usize, trouble: *mut Trouble) -> i32;
+    pub fn wch_mend(
+        path: Bytes,
+        path_length: usize,
+        flags: u32,
+        cuts: *mut Cut,
+        cuts_length: usize,
+        count: *mut usize,
+        trouble: *mut Trouble,
+    ) -> i32;
 }

@@ -1,8 +1,10 @@
 //! 20,000 drawn operations beside a map of the standard library, with reopens.
 use std::collections::BTreeMap;
+use std::ffi::OsStr;
 use std::fs;
+use std::os::unix::ffi::OsStrExt;
 use std::path::PathBuf;
-use wachuspi::{Batch, Db, Mode, Options, Snapshot, WriteOptions};
+use wachuspi::{Batch, Cut, Db, MendOptions, Mode, Options, Snapshot, WriteOptions};
 
 type Map = BTreeMap<Vec<u8>, Vec<u8>>;
 
@@ -168,10 +170,46 @@ fn drawn_operations_beside_a_map() {
 }
 
 #[test]
+fn a_power_loss_is_mended() {
+    let folder = folder("mended");
+    assert_eq!(wachuspi::mend(&folder, MendOptions::default()).unwrap(), []);
+    let db = Db::open(&folder, Mode::New).unwrap();
+    db.put(b"apple", b"red").unwrap();
+    let error = wachuspi::mend(&folder, MendOptions::default()).unwrap_err();
+    assert!(error.is_locked());
+    drop(db);
+    let name = fs::read_to_string(folder.join("CURRENT")).unwrap();
+    let manifest = folder.join(name.trim_end());
+    let mut bytes = fs::read(&manifest).unwrap();
+    let whole = bytes.len() as u64;
+    bytes.resize(bytes.len() + 9, 0);
+    fs::write(&manifest, bytes).unwrap();
+    assert_eq!(Db::open(&folder, Mode::Any).err().unwrap().name, "Corrupt");
+    let dry = MendOptions {
+        dry_run: true,
+        ..MendOptions::default()
+    };
+    let wanted = Cut {
+        file: name.trim_end().to_string(),
+        at: whole,
+        length: whole + 9,
+        zeros: 9,
+    };
+    assert_eq!(wachuspi::mend(&folder, dry).unwrap(), [wanted.clone()]);
+    assert_eq!(wachuspi::mend(&folder, MendOptions::default()).unwrap(), [wanted]);
+    let db = Db::open(&folder, Mode::Existing).unwrap();
+    assert_eq!(db.get(b"apple").unwrap().unwrap(), b"red");
+    drop(db);
+    fs::remove_dir_all(&folder).unwrap();
+}
+
+#[test]
 fn errors_say_what_is_wrong() {
     let folder = folder("errors");
     assert_eq!(wachuspi::version(), 1);
     assert!(!wachuspi::check(&folder).unwrap());
+    let other = OsStr::from_bytes(b"not utf-8: \xff");
+    assert!(Db::open(other, Mode::Any).err().unwrap().words.contains("UTF-8"));
     assert_eq!(Db::open(&folder, Mode::Existing).err().unwrap().name, "NoDatabase");
     let db = Db::open(&folder, Mode::New).unwrap();
     assert!(Db::open(&folder, Mode::Any).err().unwrap().is_locked());

@@ -1,10 +1,13 @@
 // Iterators.
 
-ghost use Rattle.std.specs.Prelude.{◌≡◌};
+ghost use Rattle.std.specs.Prelude.{◌≡◌, nat_eq, not};
 ghost use Rattle.c_calls.specs.Calls.{DropServed, IterServed, MoveServed, bytewise};
-ghost use Rattle.c_calls.specs.Motions.{going};
+ghost use Rattle.c_calls.specs.Filling.{FillServed};
+ghost use Rattle.c_calls.specs.Motions.{going, way_of};
+ghost use Rattle.c_calls.specs.Standings.{pair_of};
+ghost use Rattle.c_calls.specs.Told.{StandingTold};
 ghost use Rattle.machine.specs.Causes.{ToFirst, ToLast, ToKey, ToNext, ToPrev};
-ghost use Rattle.wachuspi.specs.Handles.{Keeps, Served, folder_facts};
+ghost use Rattle.wachuspi.specs.Handles.{Served, folder_facts};
 
 use crate::databases::Database;
 use c_calls::{CLOSED, Filled, Motion, Pair};
@@ -50,7 +53,7 @@ fn go(
 ) -> i32
     ensures served { Served (λ old new code.
         MoveServed bytewise folder_facts id (going motion.entry) room.old room.new pair.new
-        old.handle.db new.handle.db code)
+        old.handle new.handle code)
         db.old.slot.held db.new.slot.held result }
 {
     *pair = Pair::none();
@@ -72,7 +75,7 @@ pub extern "C" fn wch_iter_first(
     pair: &mut Pair,
 ) -> i32
     ensures served { Served (λ old new code.
-        MoveServed bytewise folder_facts id ToFirst room.old room.new pair.new old.handle.db new.handle.db code)
+        MoveServed bytewise folder_facts id ToFirst room.old room.new pair.new old.handle new.handle code)
         db.old.slot.held db.new.slot.held result }
 {
     go(alloc, db, id, Motion::First, room, pair)
@@ -88,7 +91,7 @@ pub extern "C" fn wch_iter_last(
     pair: &mut Pair,
 ) -> i32
     ensures served { Served (λ old new code.
-        MoveServed bytewise folder_facts id ToLast room.old room.new pair.new old.handle.db new.handle.db code)
+        MoveServed bytewise folder_facts id ToLast room.old room.new pair.new old.handle new.handle code)
         db.old.slot.held db.new.slot.held result }
 {
     go(alloc, db, id, Motion::Last, room, pair)
@@ -105,7 +108,7 @@ pub extern "C" fn wch_iter_seek(
     pair: &mut Pair,
 ) -> i32
     ensures served { Served (λ old new code.
-        MoveServed bytewise folder_facts id (ToKey key.now) room.old room.new pair.new old.handle.db new.handle.db code)
+        MoveServed bytewise folder_facts id (ToKey key.now) room.old room.new pair.new old.handle new.handle code)
         db.old.slot.held db.new.slot.held result }
 {
     go(alloc, db, id, Motion::Seek(key), room, pair)
@@ -121,7 +124,7 @@ pub extern "C" fn wch_iter_next(
     pair: &mut Pair,
 ) -> i32
     ensures served { Served (λ old new code.
-        MoveServed bytewise folder_facts id ToNext room.old room.new pair.new old.handle.db new.handle.db code)
+        MoveServed bytewise folder_facts id ToNext room.old room.new pair.new old.handle new.handle code)
         db.old.slot.held db.new.slot.held result }
 {
     go(alloc, db, id, Motion::Next, room, pair)
@@ -137,7 +140,7 @@ pub extern "C" fn wch_iter_prev(
     pair: &mut Pair,
 ) -> i32
     ensures served { Served (λ old new code.
-        MoveServed bytewise folder_facts id ToPrev room.old room.new pair.new old.handle.db new.handle.db code)
+        MoveServed bytewise folder_facts id ToPrev room.old room.new pair.new old.handle new.handle code)
         db.old.slot.held db.new.slot.held result }
 {
     go(alloc, db, id, Motion::Prev, room, pair)
@@ -152,7 +155,9 @@ pub extern "C" fn wch_iter_pair(
     room: &mut [u8],
     pair: &mut Pair,
 ) -> i32
-    ensures kept { Keeps db.old.slot.held db.new.slot.held result }
+    ensures served { Served (λ old new code.
+        StandingTold (pair_of id old.handle.iterators.items) room.old room.new pair.new code × (new ≡ old))
+        db.old.slot.held db.new.slot.held result }
 {
     *pair = Pair::none();
     let Some(held) = db.take(alloc) else {
@@ -173,7 +178,9 @@ pub extern "C" fn wch_iter_fill(
     room: &mut [u8],
     filled: &mut Filled,
 ) -> i32
-    ensures kept { Keeps db.old.slot.held db.new.slot.held result }
+    ensures served { Served (λ old new code.
+        FillServed bytewise folder_facts id (way_of (not (nat_eq backwards 0))) room.old room.new filled.new
+        old.handle new.handle code) db.old.slot.held db.new.slot.held result }
 {
     *filled = Filled::none();
     let Some(mut held) = db.take(alloc) else {

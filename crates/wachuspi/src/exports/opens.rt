@@ -1,6 +1,8 @@
 // Opening and closing.
 
-ghost use Rattle.std.specs.Prelude.{◌≡◌, None};
+ghost use Rattle.std.specs.Prelude.{◌≡◌, pos, IfOk, None};
+ghost use Rattle.wachuspi.specs.Handles.{folder_facts};
+ghost use Rattle.wachuspi.specs.Opening.{IsFolderCode, KeptTold, OpenTold, StoreTold, unread};
 
 use crate::crossing::{COptions, CTrouble};
 use crate::databases::Database;
@@ -28,37 +30,58 @@ pub extern "C" fn wch_default_options(options: &mut COptions) {
     *options = COptions::usual();
 }
 
-/// Why a folder wasn't opened: the number, and a note.
+/// Why a folder wasn't opened.
+#[derive(Clone, Copy)]
 pub enum NotOpened {
-    Misused(Why),
-    Refused(DbError, Why),
+    /// The path isn't UTF-8.
+    NotUtf8,
+    Memory,
+    Missing,
+    Device,
 }
 
 /// The files of a folder.
-pub fn open_folder(path: &[u8]) -> Result<FileStore, NotOpened> {
+pub fn open_folder(path: &[u8]) -> Result<FileStore, NotOpened>
+    ensures { IfOk result (λ store. folder_facts store ≡ unread) }
+{
     let Ok(path) = str::from_utf8(path) else {
-        return Err(NotOpened::Misused(Why::NotUtf8));
+        return Err(NotOpened::NotUtf8);
     };
     match FileStore::open(&host_runtime(), path) {
         Ok(store) => Ok(store),
-        Err(StoreError::Memory) => Err(NotOpened::Refused(DbError::OutOfMemory, Why::Nothing)),
-        Err(StoreError::Missing) => Err(NotOpened::Refused(DbError::NoDatabase, Why::Missing)),
-        Err(StoreError::Device) => Err(NotOpened::Refused(DbError::Io, Why::List)),
+        Err(StoreError::Memory) => Err(NotOpened::Memory),
+        Err(StoreError::Missing) => Err(NotOpened::Missing),
+        Err(StoreError::Device) => Err(NotOpened::Device),
     }
 }
 
 /// Tells why a folder wasn't opened.
-pub fn tell_folder(alloc: Global, why: NotOpened, trouble: &mut CTrouble) -> i32 {
+pub fn tell_folder(alloc: Global, why: NotOpened, trouble: &mut CTrouble) -> i32
+    ensures { IsFolderCode result }
+{
     match why {
-        NotOpened::Misused(why) => {
-            trouble.tell(alloc, Trouble::of(why, ""));
+        NotOpened::NotUtf8 => {
+            trouble.say("the path isn't UTF-8, and the library opens no other");
             MISUSED
         }
-        NotOpened::Refused(error, why) => {
-            trouble.tell(alloc, Trouble::of(why, ""));
-            number_of(error)
+        NotOpened::Memory => number_of(DbError::OutOfMemory),
+        NotOpened::Missing => {
+            trouble.tell(alloc, Trouble::of(Why::Missing, ""));
+            number_of(DbError::NoDatabase)
+        }
+        NotOpened::Device => {
+            trouble.tell(alloc, Trouble::of(Why::List, ""));
+            number_of(DbError::Io)
         }
     }
+}
+
+// Tells of a misuse.
+fn misused(words: &str, trouble: &mut CTrouble) -> i32
+    ensures { result ≡ pos 64 }
+{
+    trouble.say(words);
+    MISUSED
 }
 
 /// Opens the database of a folder into a closed handle.
@@ -70,13 +93,18 @@ pub extern "C" fn wch_open(
     mode: u32,
     db: &mut Database,
     trouble: &mut CTrouble,
-) -> i32 {
+) -> i32
+    ensures opened { OpenTold mode options.now db.old.slot.held db.new.slot.held result }
+{
     *trouble = CTrouble::none();
     if db.holds {
-        return MISUSED;
+        return misused("the handle has an open database", trouble);
     }
-    let (Some(options), Some(mode)) = (options.checked(), mode_of(mode)) else {
-        return MISUSED;
+    let Some(options) = options.checked() else {
+        return misused("an option is out of its range", trouble);
+    };
+    let Some(mode) = mode_of(mode) else {
+        return misused("a mode is 0, 1 or 2", trouble);
     };
     match open_folder(path) {
         Ok(store) => open_store(alloc, store, options, mode, db, trouble),
@@ -91,7 +119,11 @@ fn open_store(
     mode: Mode,
     db: &mut Database,
     trouble: &mut CTrouble,
-) -> i32 {
+) -> i32
+    requires none { db.old.slot.held ≡ None }
+    requires unread { folder_facts store ≡ unread }
+    ensures { StoreTold mode options db.new.slot.held result }
+{
     match open(alloc, store, options, mode) {
         Ok(handle) => keep_open(alloc, handle, db),
         Err(refused) => {
@@ -102,7 +134,10 @@ fn open_store(
     }
 }
 
-fn keep_open(alloc: Global, handle: Handle<FileStore>, db: &mut Database) -> i32 {
+fn keep_open(alloc: Global, handle: Handle<FileStore>, db: &mut Database) -> i32
+    requires { db.old.slot.held ≡ None }
+    ensures { KeptTold handle db.new.slot.held result }
+{
     if db.fill(alloc, handle) {
         0
     } else {

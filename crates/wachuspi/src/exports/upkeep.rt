@@ -2,7 +2,7 @@
 
 ghost use Rattle.std.specs.Prelude.{◌≡◌};
 ghost use Rattle.c_calls.specs.Calls.{CompactServed, SettleServed, WorkServed, bytewise};
-ghost use Rattle.wachuspi.specs.Handles.{Keeps, Served, folder_facts};
+ghost use Rattle.wachuspi.specs.Handles.{Keeps, Served, TablesServed, folder_facts};
 
 use crate::crossing::CTrouble;
 use crate::databases::Database;
@@ -57,6 +57,7 @@ pub extern "C" fn wch_compact(alloc: Global, db: &mut Database, level: u32) -> i
 #[unsafe(no_mangle)]
 pub extern "C" fn wch_tables(alloc: Global, db: &mut Database, level: u32) -> i64
     ensures kept { db.new.slot.held ≡ db.old.slot.held }
+    ensures told { TablesServed level db.old.slot.held result }
 {
     let Some(held) = db.take(alloc) else {
         return -1;

@@ -10,4 +10,4 @@ returns g c =
       outcome = c.iter_release-answer.ensures.outcome;
       caused = c.iter_release-answer.ensures.caused;
     } in
-    (answer, search rules, subst (λ old. DropDone bytewise g.S.Store.facts c.args.id old c.iter_release-answer.new.self answer) c.forget.ensures done)
+    (answer, search rules, subst (λ old. DropDone bytewise g.S.Store.facts c.args.id old c.iter_release-answer.new.self answer) c.forget.ensures.db done)
