@@ -6,10 +6,11 @@ use Rattle.coding.specs.declared.error.DbError.{DbError}
 use Rattle.edits.specs.declared.names.FileName.{FileName}
 use Rattle.edits.specs.declared.names.FileName.TheVariants as file
 use Rattle.engine.specs.Follows.{Leads}
+use Rattle.engine.specs.OpenedWith.{HasOptions}
 use Rattle.engine.specs.OptionValues.{OptionValues}
 use Rattle.engine.specs.Outcomes.{RefusedOpen}
 use Rattle.engine.specs.Reopening.{OpenLosesOn}
-use Rattle.engine.specs.StandsDb.{StandsDb, db_options_of, db_store_of}
+use Rattle.engine.specs.StandsDb.{StandsDb, db_store_of}
 use Rattle.engine.specs.Stops.{OpenStops}
 use Rattle.engine.specs.declared.db.Db.{Db}
 use Rattle.engine.specs.declared.ids.Ids.{Ids}
@@ -62,7 +63,7 @@ pub record Begins {S K : Type 0} {g : _} (order : Order) (facts : S → Facts) (
   pub begun : (ids.snapshot ≡ 0) × (ids.iterator ≡ 0)
   pub step : Leads (facts store) (facts (db_store_of db)) (StandsClosed order (facts store) ids)
       (StandsDb order facts db) (λ m n. Opens m mode Done n)
-  pub sizes : db_options_of db ≡ options
+  pub sizes : HasOptions options db
   pub found : IsTrue (facts (db_store_of db)).faithful → IsOpenable order (facts store).files
   pub stops : OpenStops order (facts store) (facts (db_store_of db)) ids
   pub loses : OpenLosesOn order (facts store) (facts (db_store_of db)) ids
