@@ -215,9 +215,12 @@ pub ends_refused : {S K : Type 0} {g : _} (order : Order) (facts : S → Facts) 
     → HasTaken order facts how old now script left waiting before → IsFull how.batch waiting → WritesBatch order facts how.batch how.sync now new waiting before after outcome → IsRefusal outcome
     → EndsImport order facts how old new script outcome after
 ends_refused order facts how old now new script left waiting before after outcome h full b refused =
-    ends_behind order facts how old now new script left waiting before after how.sync outcome h b false (later_of left) (first_lines script left h.lines h.leaves) (λ e. absurd (false≢true e))
-    (h.batches ++ b.write ∷ b.work ∷ b.last ∷ [], refl, batches_then how.batch how.sync h.batches (b.write ∷ b.work ∷ b.last ∷ []) h.shape b.shape,
-    full_then how.batch h.batches (b.write ∷ b.work ∷ b.last ∷ []) h.full (full_of how.batch how.sync b.write b.work b.last waiting b.shape b.written full)) (inr refused)
+    ends_behind order facts how old now new script left waiting before after how.sync outcome h b false (later_of left) (first_lines script left h.lines h.leaves) (λ e. absurd (false≢true e)) (
+      h.batches ++ b.write ∷ b.work ∷ b.last ∷ [],
+      refl,
+      batches_then how.batch how.sync h.batches (b.write ∷ b.work ∷ b.last ∷ []) h.shape b.shape,
+      full_then how.batch h.batches (b.write ∷ b.work ∷ b.last ∷ []) h.full (full_of how.batch how.sync b.write b.work b.last waiting b.shape b.written full),
+    ) (inr refused)
 
 pub ends_whole : {S K : Type 0} {g : _} (order : Order) (facts : S → Facts) (how : ImportValues) (old now new : Session S K g) (script left next : Option (List ℕ)) (waiting : List Operation) (before after : ℕ) (outcome : Answer) (line : List ℕ)
     → HasBegun order facts how old now script left waiting before → TakesLine left next false line → WritesBatch order facts how.batch true now new waiting before after outcome
