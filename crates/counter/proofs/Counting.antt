@@ -29,7 +29,7 @@ use Rattle.machine.specs.Machine.{Machine, after_batch, after_batches, current}
 use Rattle.machine.specs.Serving.{◌≈◌, ReadRefused}
 use Rattle.counter.specs.declared.counts.CountError.{CountError}
 use Rattle.counter.specs.declared.counts.CountError.TheVariants.{Refused, Full, Foreign}
-use Rattle.counter.specs.Counts.{Increments, IsOwn, IsTally, MayCount, NextOf, shown, tally}
+use Rattle.counter.specs.Counts.{CountsEach, CountsOne, IsOwn, IsTally, MayCount, NextOf, shown, tally}
 
 -- ---- counts
 
@@ -94,11 +94,11 @@ read_count count value bytes fits small is front =
 
 -- ---- through the machine
 
-served : (cause : Option DbError) (P : Type 0) (Q : DbError → Type 0) → ((e : DbError) → Q e → ⊥) → MatchOption cause P Q → P
+pub served : (cause : Option DbError) (P : Type 0) (Q : DbError → Type 0) → ((e : DbError) → Q e → ⊥) → MatchOption cause P Q → P
 served None P Q never h = h
 served (Some e) P Q never h = absurd (never e h)
 
-either : (cause : Option DbError) (P R : Type 0) (Q : DbError → Type 0) → (P → R) → ((e : DbError) → Q e → R) → MatchOption cause P Q → R
+pub either : (cause : Option DbError) (P R : Type 0) (Q : DbError → Type 0) → (P → R) → ((e : DbError) → Q e → R) → MatchOption cause P Q → R
 either None P R Q f g h = f h
 either (Some e) P R Q f g h = g e h
 
@@ -127,16 +127,21 @@ stays names m n e is = subst (λ (map : Contents). IsTally names map) (sym (same
 same_doubt : (name : Name) (names : List Name) (m n : Machine) → (n ≈ m) → MayCount name names m n
 same_doubt name names m n e = inl (ap (λ (x : Machine). x.in_doubt) e)
 
-pub refused_get : (name : Name) (m n : Machine) (e : DbError) → Gets m name None (Denied e) n → Increments name m (Err (Refused e)) n
-refused_get name m n e h = λ names is. let same = got_none m n name e h in (stays names m n same is, tt, same_doubt name names m n same)
+same_damage : (m n : Machine) → (n ≈ m) → n.damaged ≡ m.damaged
+same_damage m n e = ap (λ (x : Machine). x.damaged) e
+
+pub refused_get : (name : Name) (m n : Machine) (e : DbError) → Gets m name None (Denied e) n → CountsOne name m (Err (Refused e)) n
+refused_get name m n e h =
+    let same = got_none m n name e h in
+    record { tally = λ names is. (stays names m n same is, tt, same_doubt name names m n same); certain = tt; damaged = same_damage m n same }
 
 -- what is refused between both
-pub refused_between : (name : Name) (m n : Machine) (value : Option (List ℕ)) (e : CountError) → Gets m name None (Value value) n → ((names : List Name) → IsTally names (current m) → value ≡ shown (tally names name) → IsOwn e) → Increments name m (Err e) n
-refused_between name m n value e h own = λ names is.
+pub refused_between : (name : Name) (m n : Machine) (value : Option (List ℕ)) (e : CountError) → Gets m name None (Value value) n → ((names : List Name) → IsTally names (current m) → value ≡ shown (tally names name) → IsOwn e) → CountsOne name m (Err e) n
+refused_between name m n value e h own =
     let got = got_value m n name value h in
-    (stays names m n got.1 is, own names is (got.0 ∙ (is name).1), same_doubt name names m n got.1)
+    record { tally = λ names is. (stays names m n got.1 is, own names is (got.0 ∙ (is name).1), same_doubt name names m n got.1); certain = tt; damaged = same_damage m n got.1 }
 
-pushed : (map : Contents) (batches : List (List Operation)) (batch : List Operation) → after_batches map (batches ++ batch ∷ []) ≡ after_batch (after_batches map batches) batch
+pub pushed : (map : Contents) (batches : List (List Operation)) (batch : List Operation) → after_batches map (batches ++ batch ∷ []) ≡ after_batch (after_batches map batches) batch
 pushed map [] batch = refl
 pushed map (first ∷ batches) batch = pushed (after_batch map first) batches batch
 
@@ -154,36 +159,50 @@ module _ (name : Name) (m at : Machine) (value : Option (List ℕ)) (count : ℕ
       subst (λ (k : ℕ). IsTally (names ++ name ∷ []) (insert (current at) name (fixed64 k))) (sym one)
       (counted_more names name (current at) (omega (arith, one, fits)) (stays names m at (got_value m at name value got).1 is))
 
-  pub written : (n : Machine) (sync : Bool) → Writes at (put_of name count) sync Done n → Increments name m (Ok count) n
-  written n sync h = λ names is.
+  pub written : (n : Machine) (sync : Bool) → Writes at (put_of name count) sync Done n → CountsOne name m (Ok count) n
+  written n sync h =
       let becomes = served (write_cause (status_of at) (put_of name count)) (Written at (put_of name count) sync Done n) _ (λ e q. (let same : Done ≡ Denied e = q.0 in (let never : ⊥ = (cc) in never))) h.1 in
+      let first = (got_value m at name value got).1 in
       let map : current n ≡ after_batch (current at) (put_of name count) = ap current becomes ∙ pushed at.base at.batches (put_of name count) in
-      (subst (λ (x : Contents). IsTally (names ++ name ∷ []) x) (sym map) (more names is), next_is names is ∙ sym (tally_of names name))
+      record {
+        tally = λ names is. (subst (λ (x : Contents). IsTally (names ++ name ∷ []) x) (sym map) (more names is), next_is names is ∙ sym (tally_of names name));
+        certain = ap (λ (x : Machine). x.in_doubt) becomes ∙ ap (λ (x : Machine). x.in_doubt) first;
+        damaged = ap (λ (x : Machine). x.damaged) becomes ∙ same_damage m at first;
+      }
 
   abbrev Left : Machine → CountError → Type 0
-  Left n e = Increments name m (Err e) n
+  Left n e = CountsOne name m (Err e) n
 
   left_as : (n : Machine) (e : DbError) → (n ≈ at) → Left n (Refused e)
-  left_as n e becomes = λ names is.
+  left_as n e becomes =
       let first = (got_value m at name value got).1 in
-      (stays names at n becomes (stays names m at first is), tt, inl (ap (λ (x : Machine). x.in_doubt) becomes ∙ ap (λ (x : Machine). x.in_doubt) first))
+      record {
+        tally = λ names is. (stays names at n becomes (stays names m at first is), tt, inl (ap (λ (x : Machine). x.in_doubt) becomes ∙ ap (λ (x : Machine). x.in_doubt) first));
+        certain = tt;
+        damaged = same_damage at n becomes ∙ same_damage m at first;
+      }
 
   in_doubt : (n : Machine) (e : DbError) → (n ≈ doubted at (put_of name count)) → Left n (Refused e)
-  in_doubt n e becomes = λ names is.
+  in_doubt n e becomes =
       let first = (got_value m at name value got).1 in
-      let map : current n ≡ current at = ap current becomes in (
-        subst (λ (x : Contents). IsTally names x) (sym map) (stays names m at first is),
-        tt,
-        inr (subst (λ (o : Option (List Operation)). MatchOption o ⊥ (λ operations. IsTally (names ++ name ∷ []) (after_batch (current n) operations))) (sym (ap (λ (x : Machine). x.in_doubt) becomes))
-            (subst (λ (x : Contents). IsTally (names ++ name ∷ []) (after_batch x (put_of name count))) (sym map) (more names is))),
-      )
+      let map : current n ≡ current at = ap current becomes in
+      record {
+        tally = λ names is. (
+          subst (λ (x : Contents). IsTally names x) (sym map) (stays names m at first is),
+          tt,
+          inr (subst (λ (o : Option (List Operation)). MatchOption o ⊥ (λ operations. IsTally (names ++ name ∷ []) (after_batch (current n) operations))) (sym (ap (λ (x : Machine). x.in_doubt) becomes))
+              (subst (λ (x : Contents). IsTally (names ++ name ∷ []) (after_batch x (put_of name count))) (sym map) (more names is))),
+        );
+        certain = tt;
+        damaged = ap (λ (x : Machine). x.damaged) becomes ∙ same_damage m at first;
+      }
 
   write_left : (n : Machine) (e : DbError) → WriteRefused at (put_of name count) e n → Left n (Refused e)
   write_left n error.OutOfMemory h = left_as n error.OutOfMemory h.1
   write_left n error.Io h = in_doubt n error.Io h.2
   write_left n _ h = absurd h
 
-  pub refused_write : (n : Machine) (sync : Bool) (e : DbError) → Writes at (put_of name count) sync (Denied e) n → Increments name m (Err (Refused e)) n
+  pub refused_write : (n : Machine) (sync : Bool) (e : DbError) → Writes at (put_of name count) sync (Denied e) n → CountsOne name m (Err (Refused e)) n
   refused_write n sync e h = either (write_cause (status_of at) (put_of name count)) (WriteRefused at (put_of name count) e n) (Left n (Refused e)) _ (write_left n e) (λ c q. left_as n e q.1) h.1
 
 -- what may come of the next count
@@ -211,17 +230,40 @@ leads_then f first second = record {
 
 -- ---- several names
 
--- So many of these names were counted, and no others.
-abbrev pub Counted : List Name → ℕ → Machine → Machine → Type 0
-Counted names count m n = (had : List Name) → IsTally had (current m) → IsTally (had ++ take count names) (current n)
+more_counted : (names : List Name) (index : ℕ) (name : Name) (had : List Name) → index < length names → name ≡ get_or names index name → (had ++ take index names) ++ name ∷ [] ≡ had ++ take (index + 1) names
+more_counted names index name had within is =
+    let more : take (index + 1) names ≡ take index names ++ name ∷ [] = take_more names index name within ∙ ap (λ (x : Name). take index names ++ x ∷ []) (sym is) in
+    append_assoc had (take index names) (name ∷ []) ∙ ap (λ (xs : List Name). had ++ xs) (sym more)
+
+-- So many of these names were counted, and no others, and nothing more is in doubt.
+pub record Counted (names : List Name) (count : ℕ) (m n : Machine) : Type 0 where
+  pub tally : (had : List Name) → IsTally had (current m) → IsTally (had ++ take count names) (current n)
+  pub certain : n.in_doubt ≡ m.in_doubt
+  pub damaged : n.damaged ≡ m.damaged
 
 pub counted_none : (names : List Name) (m : Machine) → Counted names 0 m m
-counted_none names m = λ had is. subst (λ (xs : List Name). IsTally xs (current m)) (sym (append-nil had)) is
+counted_none names m = record {
+  tally = λ had is. subst (λ (xs : List Name). IsTally xs (current m)) (sym (append-nil had)) is;
+  certain = refl;
+  damaged = refl;
+}
 
-pub counted_one : (names : List Name) (index value : ℕ) (name : Name) (m at n : Machine) → index < length names → name ≡ get_or names index name → Counted names index m at → Increments name at (Ok value) n → Counted names (index + 1) m n
-counted_one names index value name m at n within is so_far one = λ had before.
-    let more : take (index + 1) names ≡ take index names ++ name ∷ [] = take_more names index name within ∙ ap (λ (x : Name). take index names ++ x ∷ []) (sym is) in
-    subst (λ (xs : List Name). IsTally xs (current n)) (append_assoc had (take index names) (name ∷ []) ∙ ap (λ (xs : List Name). had ++ xs) (sym more)) (one (had ++ take index names) (so_far had before)).0
+pub counted_one : (names : List Name) (index value : ℕ) (name : Name) (m at n : Machine) → index < length names → name ≡ get_or names index name → Counted names index m at → CountsOne name at (Ok value) n → Counted names (index + 1) m n
+counted_one names index value name m at n within is so_far one = record {
+  tally = λ had before. subst (λ (xs : List Name). IsTally xs (current n)) (more_counted names index name had within is) (one.tally (had ++ take index names) (so_far.tally had before)).0;
+  certain = one.certain ∙ so_far.certain;
+  damaged = one.damaged ∙ so_far.damaged;
+}
 
-pub counted_refused : (names : List Name) (index : ℕ) (e : CountError) (name : Name) (m at n : Machine) → Counted names index m at → Increments name at (Err e) n → Counted names index m n
-counted_refused names index e name m at n so_far one = λ had before. (one (had ++ take index names) (so_far had before)).0
+pub counted_each : (names : List Name) (count : ℕ) (m n : Machine) → Counted names count m n → CountsEach names count m n
+counted_each names count m n so_far = record { counted = so_far.tally; doubt = λ had is. inl so_far.certain; damaged = so_far.damaged }
+
+pub counted_refused : (names : List Name) (index : ℕ) (e : CountError) (name : Name) (m at n : Machine) → index < length names → name ≡ get_or names index name → Counted names index m at → CountsOne name at (Err e) n → CountsEach names index m n
+counted_refused names index e name m at n within is so_far one = record {
+  counted = λ had before. (one.tally (had ++ take index names) (so_far.tally had before)).0;
+  doubt = λ had before. elim (one.tally (had ++ take index names) (so_far.tally had before)).2 [
+    | inl same ↦ inl (same ∙ so_far.certain)
+    | inr next ↦ inr (subst (λ (xs : List Name). MatchOption n.in_doubt ⊥ (λ operations. IsTally xs (after_batch (current n) operations))) (more_counted names index name had within is) next)
+  ];
+  damaged = one.damaged ∙ so_far.damaged;
+}

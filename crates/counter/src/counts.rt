@@ -1,12 +1,11 @@
 // Counts of names, which a database keeps: under each name how often it was counted.
 
-ghost use Rattle.std.specs.Prelude.{◌≡◌, ◌<◌, ◌^◌, ◌++◌, [], ◌∷◌, ℕ, List, Some, IfOk, IfSome, OnOk, length, take};
+ghost use Rattle.std.specs.Prelude.{◌≡◌, ◌<◌, ◌^◌, [], ◌∷◌, ℕ, Some, IfOk, IfSome, OnOk, length};
 ghost use Rattle.batch.specs.declared.operation.Operation.TheVariants.{Put};
 ghost use Rattle.coding.specs.Fixed.{fixed64};
 ghost use Rattle.ikey.specs.Orders.{order_of};
 ghost use Rattle.engine.specs.StandsDb.{FollowsDb};
-ghost use Rattle.machine.specs.Machine.{current};
-ghost use Rattle.counter.specs.Counts.{Increments, IsTally, NextOf, shown};
+ghost use Rattle.counter.specs.Counts.{CountsEach, CountsOne, NextOf, shown};
 
 use batch::Batch;
 use coding::{Bytes, DbError, get_fixed64, put_fixed64};
@@ -68,7 +67,7 @@ pub fn increment<S: Store, K: KeyOrder>(
     db: &mut Db<S, K>,
     name: &[u8],
 ) -> Result<u64, CountError>
-    ensures { FollowsDb (order_of K.name K.cmp) S.facts db.old db.new (λ m n. Increments name.now m result n) }
+    ensures { FollowsDb (order_of K.name K.cmp) S.facts db.old db.new (λ m n. CountsOne name.now m result n) }
 {
     let value = match db.get(alloc, name, None) {
         Ok(value) => value,
@@ -95,8 +94,7 @@ pub fn count_each<S: Store, K: KeyOrder>(
     db: &mut Db<S, K>,
     names: &[Bytes],
 ) -> (usize, Result<(), CountError>)
-    ensures counted { FollowsDb (order_of K.name K.cmp) S.facts db.old db.new (λ m n. (had : List (List ℕ)) → IsTally had (current m) →
-        IsTally (had ++ take result.0 names.now) (current n)) }
+    ensures counted { FollowsDb (order_of K.name K.cmp) S.facts db.old db.new (λ m n. CountsEach names.now result.0 m n) }
     ensures all { OnOk result.1 (result.0 ≡ length names.now) }
 {
     for (index, name) in names.iter().enumerate() {

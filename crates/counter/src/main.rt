@@ -1,30 +1,34 @@
 //! An application over a database, and its own promise, proved. It counts the words that it is
 //! given, and prints how often each was counted so far. The database has the counts of the words
-//! that were counted without an error, and of no others (`counts::count_each`).
+//! that were counted without an error, and of no others: from the files that it finds to those that
+//! it leaves (`running::count_over`).
 #![tactic(auto)]
 
 mod counts;
+mod running;
 
 use anyhow::{Result, anyhow};
-use coding::Bytes;
-use counts::{count_each, count_in};
-use engine::{Db, Ids, KeyRange, Mode, Options};
+use coding::{Bytes, DbError};
+use counts::count_in;
 use ikey::Bytewise;
+use running::{Counted, count_over};
 use std::alloc::{AllocGlobal, Global};
 use std::{env, str};
 use store::FileStore;
-
-type Database = Db<FileStore, Bytewise>;
 
 const MOST_SHOWN: usize = 1000;
 
 fn main(rt: HostRuntime) -> Result<()> {
     let names = words(&rt)?;
-    let mut db = open(&rt)?;
-    let (_, counted) = count_each(rt.alloc(), &mut db, &names);
-    let shown = show(&rt, &mut db);
-    db.close();
-    counted?;
+    let store = FileStore::open(&rt, ".").map_err(|error| anyhow!("{error}"))?;
+    let Counted {
+        store: _,
+        count: _,
+        ended,
+        pairs,
+    } = count_over::<FileStore, Bytewise>(rt.alloc(), store, &names, MOST_SHOWN);
+    let shown = show(&rt, pairs);
+    ended?;
     shown
 }
 
@@ -37,19 +41,8 @@ fn words(rt: &HostRuntime) -> Result<Vec<Bytes>> {
     Ok(names)
 }
 
-fn open(rt: &HostRuntime) -> Result<Database> {
-    let store = FileStore::open(rt, ".").map_err(|error| anyhow!("{error}"))?;
-    Ok(Db::open(
-        rt.alloc(),
-        store,
-        Options::default(),
-        Mode::Any,
-        Ids::first(),
-    )?)
-}
-
-fn show(rt: &HostRuntime, db: &mut Database) -> Result<()> {
-    for (name, value) in db.scan(rt.alloc(), KeyRange::all(), None, MOST_SHOWN)? {
+fn show(rt: &HostRuntime, pairs: Result<Vec<(Bytes, Bytes)>, DbError>) -> Result<()> {
+    for (name, value) in pairs? {
         let count = count_in(&Some(value)).unwrap_or(0);
         println!(rt; "{} {count}", str::from_utf8(name.as_slice())?)?;
     }
