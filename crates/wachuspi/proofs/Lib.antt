@@ -1,3 +1,4 @@
 pub mod BatchSlotParts
+pub mod Opened
 pub mod Serving
 pub mod SlotParts
