@@ -1,7 +1,8 @@
 -- What a power loss may leave of a directory on a file system that leaves zeros, as ext4 does with
--- its default options. Tried were ext4 (`ordered`, with and without `nodelalloc`), XFS and Btrfs,
--- which left none. Old contents of blocks, as `data=writeback` may leave them, are none of it. As in `Rattle.store.specs.Losses`, but for the bytes that aren't synced:
--- each is found as it was, or is zero, and a file has no more bytes than it held.
+-- its default options. As in `Rattle.store.specs.Losses`, but for the bytes that aren't synced:
+-- each is found as it was, or is zero, and a file has no more bytes than it held. Tried were ext4
+-- (`ordered`, with and without `nodelalloc`), XFS and Btrfs, which left none. Old contents of
+-- blocks, as `data=writeback` may leave them, are no part of it.
 use Rattle.std.specs.Prelude.{◌≡◌, ◌⊎◌, ◌≤◌, ℕ, List, [], ◌∷◌, Some, length, take, drop}
 use Rattle.std.specs.FinMap.{get, contains_key}
 use Rattle.logfile.specs.Mending.{IsHoled, IsZeroed}
